@@ -12,7 +12,7 @@ use Rattle.eg_outcome.specs.declared.outcome.Role.TheVariants as role
 use Rattle.eg_outcome.specs.Changes.{Change}
 use Rattle.eg_outcome.specs.Reads.{ReadComes}
 use Rattle.eg_outcome.specs.Calibrations.{CalibrationComes}
-use Rattle.eg_sweep.specs.Grid.{is_too_large}
+use Rattle.eg_table.specs.Grid.{is_too_large}
 use Rattle.eg_play.specs.Files.{campaign_file}
 use Rattle.eg_play.specs.declared.telling.Telling.{Telling}
 use Rattle.eg_play.specs.Ends.{Call, RunsEnd, GridEnds}

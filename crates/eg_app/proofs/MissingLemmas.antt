@@ -10,7 +10,7 @@ use Rattle.eg_outcome.specs.declared.outcome.Role.TheVariants as role
 use Rattle.eg_outcome.specs.Outcomes.{LineEnds}
 use Rattle.eg_outcome.specs.Reads.{FileComes}
 use Rattle.eg_outcome.specs.Calibrations.{calibration_file, CalibrationComes, MissesCalibration}
-use Rattle.eg_sweep.specs.Grid.{is_too_large}
+use Rattle.eg_table.specs.Grid.{is_too_large}
 use Rattle.eg_play.specs.Files.{campaign_file}
 use Rattle.eg_play.specs.declared.telling.Telling.{Telling}
 use Rattle.eg_play.specs.Ends.{Call, CommandEnds, CampaignEnds, RunsEnd, NamedEnds, RecordEnds, SweepEnds, GridEnds, CampaignCommandEnds, RecordCommandEnds, SweepCommandEnds}

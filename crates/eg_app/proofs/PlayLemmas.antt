@@ -12,7 +12,7 @@ use Rattle.eg_outcome.specs.declared.outcome.Refusal.{Refusal}
 use Rattle.eg_outcome.specs.declared.outcome.Role.TheVariants as role
 use Rattle.eg_outcome.specs.Outcomes.{IsDoneOrMemory}
 use Rattle.eg_outcome.specs.Reads.{ReadComes, Finds, Accepts}
-use Rattle.eg_sweep.specs.Grid.{is_too_large}
+use Rattle.eg_table.specs.Grid.{is_too_large}
 use Rattle.eg_outcome.specs.Images.{image_file}
 use Rattle.eg_play.specs.Files.{campaign_file, trace_file}
 use Rattle.eg_play.specs.Inputs.{input_of, TicksCome, InputComes, InputsCome, FindsInput, AcceptsInput, FindsRuns, AcceptsRuns, too_many}

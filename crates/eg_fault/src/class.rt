@@ -1,6 +1,7 @@
 // A fault, and the classes of faults.
 ghost use Rattle.std.specs.Prelude.{◌≡◌, ◌≤◌, ◌↔◌, IsTrue, All, length};
 ghost use Rattle.std.specs.List.Sorted.{IsStrictlyIncreasing};
+ghost use Rattle.std.specs.Option.{option_copied};
 ghost use Rattle.eg_fault.specs.Faults.{AreFew, IsValid, IsValidClass, IsOffset};
 
 use crate::{Opens, PATH_1, PATH_2, Script};
@@ -70,6 +71,16 @@ impl Fault {
         Fault {
             onset: self.onset,
             class: self.class.copy(),
+        }
+    }
+
+    /// An equal fault, if there is one. It takes no memory.
+    pub fn copied(fault: Option<&Fault>) -> Option<Fault>
+        ensures { result ≡ option_copied fault.entry }
+    {
+        match fault {
+            Some(fault) => Some(fault.copy()),
+            None => None,
         }
     }
 }

@@ -1,5 +1,6 @@
 // The laws of all faults. None of these functions does anything when it runs.
 ghost use Rattle.eg_fault.specs.Classes.{OneTrackIsFaulty, PressedBrakesAreSeen, PlatesAreHeldWithin, FlipsAreInWords, FaultsCheckFlips, OneOfEightIsLeftOut, FaultsDisturbOne, OthersSpareLevels, OthersSpareAnswers, WildStaysWild, OthersObeyLatches};
+ghost use Rattle.eg_fault.specs.Names.{NamesAreRead, KeysAreOwn};
 ghost use Rattle.eg_fault.specs.Running.{RunningLaw};
 
 /// A law: without a fault and under any fault all modules of level 2 run at a tick, or none does, or all but
@@ -37,4 +38,11 @@ pub fn faults_stay_in_level2()
     ensures flips { FlipsAreInWords }
     ensures left_out { OneOfEightIsLeftOut }
     ensures disturbed { FaultsDisturbOne }
+{}
+
+/// Laws of how classes are spelt (docs/FORMATS.md, "Campaign files"): the name that is written of a class is
+/// read as that class, and the keys that are written of it are those that are read for it.
+pub fn classes_are_read_as_written()
+    ensures names { NamesAreRead }
+    ensures keys { KeysAreOwn }
 {}

@@ -2,5 +2,5 @@ pub mod TableLemmas
 pub mod HeldLemmas
 pub mod RuleLemmas
 pub mod TickLemmas
-pub mod NameLemmas
+pub mod OwnLemmas
 pub mod Worked

@@ -19,9 +19,11 @@ use Rattle.eg_sensor.specs.declared.tracks.TheConstants.{PEDAL_1, BRAKE_2, TRACK
 use Rattle.eg_answer.specs.declared.modules.TheConstants.{CHECK, PEDAL, PAIRS, REACT, MODULES}
 use Rattle.eg_answer.specs.declared.words.TheConstants.{STORED_WORDS}
 use Rattle.eg_fault.specs.Faults.{IsValid, IsValidClass, IsNoneOrValid}
+use Rattle.eg_fault.specs.Names.{own_keys}
+use Rattle.eg_fault.specs.declared.key.FaultKey.TheVariants as own
 use Rattle.eg_fault.specs.declared.paths.TheConstants.{PATH_1, PATH_2}
-use Rattle.eg_plan.specs.declared.class_name.ClassName.{ClassName}
-use Rattle.eg_plan.specs.declared.class_name.ClassName.TheVariants.{Script, Offset, Bus, Plate, Skip, Disturb, Flip, Halt, Timing, Wild, Path1Closed, Path2Closed, PathOpen, Lapse}
+use Rattle.eg_fault.specs.declared.class_name.ClassName.{ClassName}
+use Rattle.eg_fault.specs.declared.class_name.ClassName.TheVariants.{Script, Offset, Bus, Plate, Skip, Disturb, Flip, Halt, Timing, Wild, Path1Closed, Path2Closed, PathOpen, Lapse}
 use Rattle.eg_plan.specs.declared.key.CampaignFault.{CampaignFault}
 use Rattle.eg_plan.specs.declared.key.CampaignFault.TheVariants.{Memory, Key, TwoFaults, Name, Many}
 use Rattle.eg_plan.specs.declared.key.RunKey.{RunKey}
@@ -30,7 +32,7 @@ use Rattle.eg_plan.specs.declared.run.RunPlan.{RunPlan}
 use Rattle.eg_plan.specs.Keys.{KeyRule, ◌holds◌, number, words, text_of, run_keys, name, onset}
 use Rattle.eg_plan.specs.Contents.{usual_slices, bytes_of, number_of, numbers_of}
 use Rattle.eg_plan.specs.Checks.{key_refusal, keys_refusal}
-use Rattle.eg_plan.specs.Classes.{class_in, own_keys, class_of}
+use Rattle.eg_plan.specs.Classes.{class_in, own_rules, class_of}
 use Rattle.eg_plan.specs.Faults.{class_at, fault_refusal, fault_of, names_with, has_own_names}
 use Rattle.eg_plan.specs.Runs.{all_items, is_table, are_tables, is_one_at_most, array_refusal, faults_refusal, fault_table, table_refusal, run_names, table_is_known, is_all_known, run_of, has_name, run_refusal}
 use Rattle.eg_plan.specs.Campaign.{runs_of, runs_refusal, run_items, are_runs, is_top_known, refusal_of}
@@ -64,58 +66,58 @@ below n high bound e h = omega arith
 
 -- ---- a fault
 
-class-valid : (name : ClassName) (ms : Members) → AllByRecursion (IsHeld ms) (own_keys name) → IsValidClass (class_of name ms)
+class-valid : (name : ClassName) (ms : Members) → AllByRecursion (IsHeld ms) (own_rules name) → IsValidClass (class_of name ms)
 unfolding IsValidClass
 class-valid Script ms h =
-    let values = words-in key.Values ms h.1.0 in
-    (below _ BRAKE_2 TRACKS refl (number-in PEDAL_1 BRAKE_2 key.Track ms h.0).1, (values.from, values.to), values.each)
+    let values = words-in (key.Own own.Values) ms h.1.0 in
+    (below _ BRAKE_2 TRACKS refl (number-in PEDAL_1 BRAKE_2 (key.Own own.Track) ms h.0).1, (values.from, values.to), values.each)
 class-valid Offset ms h =
-    (below _ BRAKE_2 TRACKS refl (number-in PEDAL_1 BRAKE_2 key.Track ms h.0).1, kept shift-exact (get_member (text_of key.Add) ms) _ h.1.0)
-class-valid Bus ms h = number-in 1 65535 key.Mask ms h.0
-class-valid Plate ms h = (number-in 0 1000 key.At ms h.0).1
-class-valid Skip ms h = below _ REACT MODULES refl (number-in CHECK REACT key.Module ms h.0).1
+    (below _ BRAKE_2 TRACKS refl (number-in PEDAL_1 BRAKE_2 (key.Own own.Track) ms h.0).1, kept shift-exact (get_member (text_of (key.Own own.Add)) ms) _ h.1.0)
+class-valid Bus ms h = number-in 1 65535 (key.Own own.Mask) ms h.0
+class-valid Plate ms h = (number-in 0 1000 (key.Own own.At) ms h.0).1
+class-valid Skip ms h = below _ REACT MODULES refl (number-in CHECK REACT (key.Own own.Module) ms h.0).1
 class-valid Disturb ms h =
-    let index = number-in PEDAL PAIRS key.Module ms h.0 in
-    (index.0, index.1, number-in 1 65535 key.Mask ms h.1.0)
-class-valid Flip ms h = (below _ (STORED_WORDS - 1) STORED_WORDS refl (number-in 0 (STORED_WORDS - 1) key.Word ms h.0).1, number-in 1 65535 key.Mask ms h.1.0)
+    let index = number-in PEDAL PAIRS (key.Own own.Module) ms h.0 in
+    (index.0, index.1, number-in 1 65535 (key.Own own.Mask) ms h.1.0)
+class-valid Flip ms h = (below _ (STORED_WORDS - 1) STORED_WORDS refl (number-in 0 (STORED_WORDS - 1) (key.Own own.Word) ms h.0).1, number-in 1 65535 (key.Own own.Mask) ms h.1.0)
 class-valid Halt ms h = tt
-class-valid Timing ms h = (number-in 0 99 key.Offset ms h.0).1
+class-valid Timing ms h = (number-in 0 99 (key.Own own.Offset) ms h.0).1
 class-valid Wild ms h =
-    let questions = words-in key.Questions ms h.0 in
-    let opens = kept truths-exact (get_member (text_of key.Opens) ms) [] h.1.0 in
+    let questions = words-in (key.Own own.Questions) ms h.0 in
+    let opens = kept truths-exact (get_member (text_of (key.Own own.Opens)) ms) [] h.1.0 in
     ((questions.from, questions.to), questions.each, (opens.from, opens.to))
 class-valid Path1Closed ms h = tt
 class-valid Path2Closed ms h = tt
-class-valid PathOpen ms h = number-in PATH_1 PATH_2 key.Path ms h.0
+class-valid PathOpen ms h = number-in PATH_1 PATH_2 (key.Own own.Path) ms h.0
 class-valid Lapse ms h =
-    let (after, rise) = kept ticks-exact (get_member (text_of key.After) ms) [] h.0 in
-    ((after.from, after.to), after.each, rise, may-kept (number-up 20000) 0 0 (get_member (text_of key.Every) ms) (omega arith) h.1.0)
+    let (after, rise) = kept ticks-exact (get_member (text_of (key.Own own.After)) ms) [] h.0 in
+    ((after.from, after.to), after.each, rise, may-kept (number-up 20000) 0 0 (get_member (text_of (key.Own own.Every)) ms) (omega arith) h.1.0)
 
 fault-held : (n : ℕ) (ms : Members) → fault_refusal n ms ≡ None → has_own_names ms ≡ true → IsFaultTable ms
 unfolding fault_refusal
 fault-held n ms e known =
-    let h = first_of-none (unless_some (Key n key.Class) (class_in ms) ∷ key_refusal n onset ms ∷ keys_refusal n (own_keys (class_at ms)) ms ∷ []) e in
+    let h = first_of-none (unless_some (Key n key.Class) (class_in ms) ∷ key_refusal n onset ms ∷ keys_refusal n (own_rules (class_at ms)) ms ∷ []) e in
     let named = unless_some-none (Key n key.Class) (class_in ms) h.0 in
     record {
       class = class_at ms;
       is_named = named.1 ∙ ap Some (sym (ap (λ o. unwrap_or o Halt) named.1));
       begins = (content-held (Key n key.Onset) onset.content (text_of key.Onset) ms).0 h.1.0;
-      keys = keys-held n ms (own_keys (class_at ms)) h.1.1.0;
+      keys = keys-held n ms (own_rules (class_at ms)) h.1.1.0;
       names = known;
     }
 
 same-class : (ms : Members) (t : IsFaultTable ms) → t.class ≡ class_at ms
 same-class ms t = sym (ap (λ o. unwrap_or o Halt) t.is_named)
 
-own-keys : (ms : Members) → IsFaultTable ms → AllByRecursion (IsHeld ms) (own_keys (class_at ms))
-own-keys ms t = subst (λ c. AllByRecursion (IsHeld ms) (own_keys c)) (same-class ms t) t.keys
+own-keys : (ms : Members) → IsFaultTable ms → AllByRecursion (IsHeld ms) (own_rules (class_at ms))
+own-keys ms t = subst (λ c. AllByRecursion (IsHeld ms) (own_rules c)) (same-class ms t) t.keys
 
 held-fault : (n : ℕ) (ms : Members) → IsFaultTable ms → fault_refusal n ms ≡ None
 unfolding fault_refusal
 held-fault n ms t =
     none-or (unless_some (Key n key.Class) (class_in ms)) _ (ap (unless_some (Key n key.Class)) t.is_named)
     (none-or (key_refusal n onset ms) _ ((content-held (Key n key.Onset) onset.content (text_of key.Onset) ms).1 t.begins)
-    (none-or (keys_refusal n (own_keys (class_at ms)) ms) None (held-keys n ms (own_keys (class_at ms)) (own-keys ms t)) refl))
+    (none-or (keys_refusal n (own_rules (class_at ms)) ms) None (held-keys n ms (own_rules (class_at ms)) (own-keys ms t)) refl))
 
 fault-valid : (ms : Members) → IsFaultTable ms → IsValid (fault_of ms)
 unfolding fault_of

@@ -12,7 +12,7 @@ use Rattle.eg_plan.specs.Keys.{Content, run_name, file_name, slice_rows, engine_
 use Rattle.eg_toml.specs.Refusals.{or_else, unless_some, unless_true, unless}
 use Rattle.eg_plan.specs.Contents.{text_at, is_run_name, is_file_name, slices_at, engine_at, optional_at, shift_at, words_at, ticks_at, truths_at, bytes_of}
 use Rattle.eg_plan.specs.Checks.{content_refusal, key_refusal, keys_refusal}
-use Rattle.eg_plan.specs.Classes.{class_in, own_keys}
+use Rattle.eg_plan.specs.Classes.{class_in, own_rules}
 use Rattle.eg_plan.specs.Faults.{class_at, fault_refusal}
 use Rattle.eg_plan.specs.Runs.{are_tables, is_one_at_most, array_refusal, fault_table, table_refusal, is_all_known, run_of, has_name, run_refusal}
 use Rattle.eg_plan.specs.Campaign.{members_in, runs_refusal, run_items, are_runs, is_top_known, refusal_of}
@@ -67,7 +67,7 @@ table-other n None = refl
 table-other n (Some ms) =
     or-other (unless_some (Key n key.Class) (class_in ms)) _ (some-other (Key n key.Class) (class_in ms) refl)
     (or-other (key_refusal n onset ms) _ (some-other (Key n key.Onset) (number_at 0 19999 (text_of key.Onset) ms) refl)
-    (or-other (keys_refusal n (own_keys (class_at ms)) ms) None (keys-other n (own_keys (class_at ms)) ms) refl))
+    (or-other (keys_refusal n (own_rules (class_at ms)) ms) None (keys-other n (own_rules (class_at ms)) ms) refl))
 
 array-other : (n : ℕ) (o : Option Data) → IsOther (array_refusal n o)
 array-other n None = refl

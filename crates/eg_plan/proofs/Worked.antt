@@ -6,6 +6,8 @@ use Rattle.eg_toml.specs.Documents.{document_of}
 use Rattle.eg_fault.specs.declared.class.Class.{Class}
 use Rattle.eg_fault.specs.declared.class.Class.TheVariants as class
 use Rattle.eg_fault.specs.declared.class.Fault.{Fault}
+use Rattle.eg_fault.specs.declared.key.FaultKey.TheVariants as own
+use Rattle.eg_fault.specs.Names.{class_named, class_text}
 use Rattle.eg_plant.specs.declared.engine_kind.EngineKind.{EngineKind}
 use Rattle.eg_plant.specs.declared.engine_kind.EngineKind.TheVariants.{Gasoline, Diesel}
 use Rattle.eg_plan.specs.declared.key.RunKey.TheVariants as key
@@ -65,7 +67,7 @@ engines : map read (
     ∷ Ok (run_with (codes "a") Diesel (Some (record { onset = 7; class = class.Halt })) ∷ [])
     ∷ Ok (run_with (codes "a") Diesel None ∷ run_with (codes "b") Gasoline None ∷ run_with (codes "c") Diesel None ∷ [])
     ∷ []
-unfolding toml_on_literals chars is_utf8 keys_refusal fault_refusal fault_of run_refusal refusal_of
+unfolding toml_on_literals chars is_utf8 class_named class_text keys_refusal fault_refusal fault_of run_refusal refusal_of
 engines = refl
 
 classes : map read (
@@ -101,7 +103,7 @@ classes : map read (
     ∷ faulty 13 (class.Lapse (0 ∷ 19999 ∷ []) 0)
     ∷ faulty 14 (class.Lapse (5 ∷ []) 20000)
     ∷ []
-unfolding toml_on_literals chars is_utf8 keys_refusal fault_refusal fault_of run_refusal refusal_of
+unfolding toml_on_literals chars is_utf8 class_named class_text keys_refusal fault_refusal fault_of run_refusal refusal_of
 classes = refl
 
 -- ---- refusals ----
@@ -136,7 +138,7 @@ files : map read (
     ∷ refused (Key 2 key.Unknown)
     ∷ refused (Name 3)
     ∷ []
-unfolding toml_on_literals chars is_utf8 keys_refusal fault_refusal fault_of run_refusal refusal_of
+unfolding toml_on_literals chars is_utf8 class_named class_text keys_refusal fault_refusal fault_of run_refusal refusal_of
 files = refl
 
 -- other engines, and where a bad one stands in the order of refusals
@@ -177,7 +179,7 @@ bad_engines : map read (
     ∷ refused (Key 1 key.Unknown)
     ∷ refused (Key 2 key.Engine)
     ∷ []
-unfolding toml_on_literals chars is_utf8 keys_refusal fault_refusal fault_of run_refusal refusal_of
+unfolding toml_on_literals chars is_utf8 class_named class_text keys_refusal fault_refusal fault_of run_refusal refusal_of
 bad_engines = refl
 
 faults : map read (
@@ -202,14 +204,14 @@ faults : map read (
     ∷ refused (Key 1 key.Class)
     ∷ refused (Key 1 key.Class)
     ∷ refused (Key 1 key.Onset)
-    ∷ refused (Key 1 key.Track)
-    ∷ refused (Key 1 key.Values)
-    ∷ refused (Key 1 key.Add)
-    ∷ refused (Key 1 key.Module)
-    ∷ refused (Key 1 key.Opens)
-    ∷ refused (Key 1 key.After)
-    ∷ refused (Key 1 key.Every)
+    ∷ refused (Key 1 (key.Own own.Track))
+    ∷ refused (Key 1 (key.Own own.Values))
+    ∷ refused (Key 1 (key.Own own.Add))
+    ∷ refused (Key 1 (key.Own own.Module))
+    ∷ refused (Key 1 (key.Own own.Opens))
+    ∷ refused (Key 1 (key.Own own.After))
+    ∷ refused (Key 1 (key.Own own.Every))
     ∷ refused (Key 1 key.Unknown)
     ∷ []
-unfolding toml_on_literals chars is_utf8 keys_refusal fault_refusal fault_of run_refusal refusal_of
+unfolding toml_on_literals chars is_utf8 class_named class_text keys_refusal fault_refusal fault_of run_refusal refusal_of
 faults = refl

@@ -7,14 +7,15 @@ use Rattle.std.specs.List.Sorted.{IsStrictlyIncreasing}
 use Rattle.toml.specs.Data.{Data, string, integer, boolean, table, Members, get_member}
 use Rattle.eg_toml.specs.Names.{all_names, is_among}
 use Rattle.eg_toml.specs.Held.{HoldsValue, MayHoldValue, natural, array_of, IsBetween, AreMany}
+use Rattle.eg_fault.specs.declared.class_name.ClassName.{ClassName}
 use Rattle.eg_fault.specs.Faults.{IsOffset}
-use Rattle.eg_plan.specs.declared.class_name.ClassName.{ClassName}
+use Rattle.eg_fault.specs.Names.{own_keys}
 use Rattle.eg_plant.specs.declared.engine_kind.EngineKind.{EngineKind}
 use Rattle.eg_plant.specs.declared.engine_kind.EngineKind.TheVariants.{Gasoline, Diesel}
 use Rattle.eg_plan.specs.declared.key.CampaignFault.TheVariants.{Ticks}
 use Rattle.eg_plan.specs.declared.run.RunPlan.{RunPlan}
 use Rattle.eg_plan.specs.Keys.{Content, run_name, file_name, slice_rows, engine_name, number, optional, shift, words, ticks, truths, KeyRule, text_of, run_keys, onset}
-use Rattle.eg_plan.specs.Classes.{class_in, own_keys}
+use Rattle.eg_plan.specs.Classes.{class_in, own_rules}
 use Rattle.eg_plan.specs.Faults.{names_with}
 use Rattle.eg_plan.specs.Runs.{run_names, run_of}
 use Rattle.eg_plan.specs.Campaign.{runs_of, run_items, is_top_known, campaign_of}
@@ -51,7 +52,7 @@ pub record IsFaultTable (ms : Members) : Type 0 where
   pub class : ClassName
   pub is_named : class_in ms ≡ Some class
   pub begins : IsHeld ms onset
-  pub keys : AllByRecursion (IsHeld ms) (own_keys class)
+  pub keys : AllByRecursion (IsHeld ms) (own_rules class)
   pub names : all_names (is_among (names_with (own_keys class))) ms ≡ true
 
 -- the table of a run has what its keys hold, a fault or none, and no other name

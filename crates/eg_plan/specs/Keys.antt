@@ -4,9 +4,14 @@ use Rattle.std.specs.Prelude.{ℕ, ◌-◌, List, [], ◌∷◌, codes}
 use Rattle.eg_sensor.specs.declared.tracks.TheConstants.{PEDAL_1, BRAKE_2}
 use Rattle.eg_answer.specs.declared.modules.TheConstants.{CHECK, PEDAL, PAIRS, REACT}
 use Rattle.eg_answer.specs.declared.words.TheConstants.{STORED_WORDS}
+use Rattle.eg_fault.specs.declared.class_name.ClassName.{ClassName}
+use Rattle.eg_fault.specs.declared.class_name.ClassName.TheVariants.{Disturb}
+use Rattle.eg_fault.specs.declared.key.FaultKey.{FaultKey}
+use Rattle.eg_fault.specs.declared.key.FaultKey.TheVariants as own
 use Rattle.eg_fault.specs.declared.paths.TheConstants.{PATH_1, PATH_2}
+use Rattle.eg_fault.specs.Names.{key_text}
 use Rattle.eg_plan.specs.declared.key.RunKey.{RunKey}
-use Rattle.eg_plan.specs.declared.key.RunKey.TheVariants.{Run, Name, Trace, Image, Slices, Engine, Faults, Class, Onset, Track, Values, Add, Mask, At, Module, Word, Offset, Questions, Opens, Path, After, Every, Unknown}
+use Rattle.eg_plan.specs.declared.key.RunKey.TheVariants.{Run, Name, Trace, Image, Slices, Engine, Faults, Class, Onset, Own, Unknown}
 
 -- a key as it stands in the file, and as a note prints it
 abbrev pub text_of : RunKey → List ℕ
@@ -19,19 +24,7 @@ text_of Engine = codes "engine"
 text_of Faults = codes "faults"
 text_of Class = codes "class"
 text_of Onset = codes "onset"
-text_of Track = codes "track"
-text_of Values = codes "values"
-text_of Add = codes "add"
-text_of Mask = codes "mask"
-text_of At = codes "at"
-text_of Module = codes "module"
-text_of Word = codes "word"
-text_of Offset = codes "offset"
-text_of Questions = codes "questions"
-text_of Opens = codes "opens"
-text_of Path = codes "path"
-text_of After = codes "after"
-text_of Every = codes "every"
+text_of (Own key) = key_text key
 text_of Unknown = codes "unknown"
 
 -- What a key may hold. A number is a TOML integer, and a truth value a TOML boolean.
@@ -83,46 +76,27 @@ run_keys = name ∷ trace ∷ image ∷ slices ∷ engine ∷ []
 abbrev pub onset : KeyRule
 onset = Onset holds number 0 19999
 
-abbrev pub track : KeyRule
-track = Track holds number PEDAL_1 BRAKE_2
+-- the modules that a class may name: one that is disturbed gives a signal
+abbrev modules_of : ClassName → Content
+modules_of Disturb = number PEDAL PAIRS
+modules_of _ = number CHECK REACT
 
-abbrev pub values : KeyRule
-values = Values holds words
+-- what an own key of a class may hold
+abbrev content_of : ClassName → FaultKey → Content
+content_of class own.Track = number PEDAL_1 BRAKE_2
+content_of class own.Values = words
+content_of class own.Add = shift
+content_of class own.Mask = number 1 65535
+content_of class own.At = number 0 1000
+content_of class own.Module = modules_of class
+content_of class own.Word = number 0 (STORED_WORDS - 1)
+content_of class own.Offset = number 0 99
+content_of class own.Questions = words
+content_of class own.Opens = truths
+content_of class own.Path = number PATH_1 PATH_2
+content_of class own.After = ticks
+content_of class own.Every = optional 20000
 
-abbrev pub add : KeyRule
-add = Add holds shift
-
-abbrev pub mask : KeyRule
-mask = Mask holds number 1 65535
-
-abbrev pub at : KeyRule
-at = At holds number 0 1000
-
--- any module of level 2
-abbrev pub any_module : KeyRule
-any_module = Module holds number CHECK REACT
-
--- one of the modules of level 2 that give a signal
-abbrev pub signal_module : KeyRule
-signal_module = Module holds number PEDAL PAIRS
-
-abbrev pub word : KeyRule
-word = Word holds number 0 (STORED_WORDS - 1)
-
-abbrev pub offset : KeyRule
-offset = Offset holds number 0 99
-
-abbrev pub questions : KeyRule
-questions = Questions holds words
-
-abbrev pub opens : KeyRule
-opens = Opens holds truths
-
-abbrev pub path : KeyRule
-path = Path holds number PATH_1 PATH_2
-
-abbrev pub after : KeyRule
-after = After holds ticks
-
-abbrev pub every : KeyRule
-every = Every holds optional 20000
+-- an own key of a class, and what it may hold
+abbrev pub rule_of : ClassName → FaultKey → KeyRule
+rule_of class key = Own key holds content_of class key

@@ -1,18 +1,18 @@
 // The fault of a run.
-ghost use Rattle.std.specs.Prelude.{◌≡◌};
+ghost use Rattle.std.specs.Prelude.{◌≡◌, ◌∷◌, codes, map};
 ghost use Rattle.toml.specs.View.{table_view};
 ghost use Rattle.eg_toml.specs.Names.{all_names, is_among};
 ghost use Rattle.eg_toml.specs.Refusals.{Checks};
-ghost use Rattle.eg_plan.specs.Classes.{own_keys};
+ghost use Rattle.eg_fault.specs.Names.{key_text, own_keys};
+ghost use Rattle.eg_plan.specs.Classes.{class_in};
 ghost use Rattle.eg_plan.specs.Faults.{TellsClass, fault_refusal, fault_of, names_with, has_own_names};
 
-use crate::class_name::{ClassName, class_in};
 use crate::contents::{index, number, optional, shift, ticks, truths, words};
 use crate::{CampaignFault, RunKey};
 use eg_answer::{CHECK, PAIRS, PEDAL, REACT, STORED_WORDS};
-use eg_fault::{Class, Fault, PATH_1, PATH_2};
+use eg_fault::{Class, ClassName, Fault, FaultKey, PATH_1, PATH_2};
 use eg_sensor::{BRAKE_2, PEDAL_1};
-use eg_toml::has_only_names;
+use eg_toml::member;
 use toml::Table;
 
 /// The fault that a table of this run says, or the refusal of its first key that has one
@@ -60,8 +60,8 @@ fn class_with(table: &Table, run: u32, name: ClassName) -> Result<Class, Campaig
 fn script(table: &Table, run: u32) -> Result<Class, CampaignFault>
     ensures { TellsClass run ClassName.Script (table_view table.now) result }
 {
-    let track = index(table, run, RunKey::Track, PEDAL_1, BRAKE_2)?;
-    let values = words(table, run, RunKey::Values)?;
+    let track = index(table, run, RunKey::Own(FaultKey::Track), PEDAL_1, BRAKE_2)?;
+    let values = words(table, run, RunKey::Own(FaultKey::Values))?;
     Ok(Class::Script { track, values })
 }
 
@@ -69,8 +69,8 @@ fn script(table: &Table, run: u32) -> Result<Class, CampaignFault>
 fn offset(table: &Table, run: u32) -> Result<Class, CampaignFault>
     ensures { TellsClass run ClassName.Offset (table_view table.now) result }
 {
-    let track = index(table, run, RunKey::Track, PEDAL_1, BRAKE_2)?;
-    let add = shift(table, run, RunKey::Add)?;
+    let track = index(table, run, RunKey::Own(FaultKey::Track), PEDAL_1, BRAKE_2)?;
+    let add = shift(table, run, RunKey::Own(FaultKey::Add))?;
     Ok(Class::Offset { track, add })
 }
 
@@ -78,7 +78,7 @@ fn offset(table: &Table, run: u32) -> Result<Class, CampaignFault>
 fn bus(table: &Table, run: u32) -> Result<Class, CampaignFault>
     ensures { TellsClass run ClassName.Bus (table_view table.now) result }
 {
-    let mask = number(table, run, RunKey::Mask, 1, u16::MAX)?;
+    let mask = number(table, run, RunKey::Own(FaultKey::Mask), 1, u16::MAX)?;
     Ok(Class::Bus { mask })
 }
 
@@ -86,7 +86,7 @@ fn bus(table: &Table, run: u32) -> Result<Class, CampaignFault>
 fn plate(table: &Table, run: u32) -> Result<Class, CampaignFault>
     ensures { TellsClass run ClassName.Plate (table_view table.now) result }
 {
-    let at = number(table, run, RunKey::At, 0, 1000)?;
+    let at = number(table, run, RunKey::Own(FaultKey::At), 0, 1000)?;
     Ok(Class::Plate { at })
 }
 
@@ -94,7 +94,7 @@ fn plate(table: &Table, run: u32) -> Result<Class, CampaignFault>
 fn skip(table: &Table, run: u32) -> Result<Class, CampaignFault>
     ensures { TellsClass run ClassName.Skip (table_view table.now) result }
 {
-    let module = index(table, run, RunKey::Module, CHECK, REACT)?;
+    let module = index(table, run, RunKey::Own(FaultKey::Module), CHECK, REACT)?;
     Ok(Class::Skip { module })
 }
 
@@ -102,8 +102,8 @@ fn skip(table: &Table, run: u32) -> Result<Class, CampaignFault>
 fn disturb(table: &Table, run: u32) -> Result<Class, CampaignFault>
     ensures { TellsClass run ClassName.Disturb (table_view table.now) result }
 {
-    let module = index(table, run, RunKey::Module, PEDAL, PAIRS)?;
-    let mask = number(table, run, RunKey::Mask, 1, u16::MAX)?;
+    let module = index(table, run, RunKey::Own(FaultKey::Module), PEDAL, PAIRS)?;
+    let mask = number(table, run, RunKey::Own(FaultKey::Mask), 1, u16::MAX)?;
     Ok(Class::Disturb { module, mask })
 }
 
@@ -111,8 +111,8 @@ fn disturb(table: &Table, run: u32) -> Result<Class, CampaignFault>
 fn flip(table: &Table, run: u32) -> Result<Class, CampaignFault>
     ensures { TellsClass run ClassName.Flip (table_view table.now) result }
 {
-    let word = index(table, run, RunKey::Word, 0, STORED_WORDS - 1)?;
-    let mask = number(table, run, RunKey::Mask, 1, u16::MAX)?;
+    let word = index(table, run, RunKey::Own(FaultKey::Word), 0, STORED_WORDS - 1)?;
+    let mask = number(table, run, RunKey::Own(FaultKey::Mask), 1, u16::MAX)?;
     Ok(Class::Flip { word, mask })
 }
 
@@ -120,7 +120,7 @@ fn flip(table: &Table, run: u32) -> Result<Class, CampaignFault>
 fn timing(table: &Table, run: u32) -> Result<Class, CampaignFault>
     ensures { TellsClass run ClassName.Timing (table_view table.now) result }
 {
-    let offset = number(table, run, RunKey::Offset, 0, 99)?;
+    let offset = number(table, run, RunKey::Own(FaultKey::Offset), 0, 99)?;
     Ok(Class::Timing { offset })
 }
 
@@ -128,8 +128,8 @@ fn timing(table: &Table, run: u32) -> Result<Class, CampaignFault>
 fn wild(table: &Table, run: u32) -> Result<Class, CampaignFault>
     ensures { TellsClass run ClassName.Wild (table_view table.now) result }
 {
-    let questions = words(table, run, RunKey::Questions)?;
-    let opens = truths(table, run, RunKey::Opens)?;
+    let questions = words(table, run, RunKey::Own(FaultKey::Questions))?;
+    let opens = truths(table, run, RunKey::Own(FaultKey::Opens))?;
     Ok(Class::Wild { questions, opens })
 }
 
@@ -137,7 +137,7 @@ fn wild(table: &Table, run: u32) -> Result<Class, CampaignFault>
 fn path_open(table: &Table, run: u32) -> Result<Class, CampaignFault>
     ensures { TellsClass run ClassName.PathOpen (table_view table.now) result }
 {
-    let path = index(table, run, RunKey::Path, PATH_1, PATH_2)?;
+    let path = index(table, run, RunKey::Own(FaultKey::Path), PATH_1, PATH_2)?;
     Ok(Class::PathOpen { path })
 }
 
@@ -145,9 +145,16 @@ fn path_open(table: &Table, run: u32) -> Result<Class, CampaignFault>
 fn lapse(table: &Table, run: u32) -> Result<Class, CampaignFault>
     ensures { TellsClass run ClassName.Lapse (table_view table.now) result }
 {
-    let after = ticks(table, run, RunKey::After)?;
-    let every = optional(table, run, RunKey::Every, 20_000)?;
+    let after = ticks(table, run, RunKey::Own(FaultKey::After))?;
+    let every = optional(table, run, RunKey::Own(FaultKey::Every), 20_000)?;
     Ok(Class::Lapse { after, every })
+}
+
+/// The class that a table of `faults` names, or None where it names none.
+fn class_in(table: &Table) -> Option<ClassName>
+    ensures { result ≡ class_in (table_view table.now) }
+{
+    ClassName::named(member(table, "class")?.as_str()?)
 }
 
 /// Whether a table with a class has no name but those of its class.
@@ -160,21 +167,24 @@ pub(crate) fn has_own_names(table: &Table) -> bool
 fn has_names_of(table: &Table, name: ClassName) -> bool
     ensures { result ≡ all_names (is_among (names_with (own_keys name))) (table_view table.now) }
 {
-    match name {
-        ClassName::Script => has_only_names(table, &["class", "onset", "track", "values"]),
-        ClassName::Offset => has_only_names(table, &["class", "onset", "track", "add"]),
-        ClassName::Bus => has_only_names(table, &["class", "onset", "mask"]),
-        ClassName::Plate => has_only_names(table, &["class", "onset", "at"]),
-        ClassName::Skip => has_only_names(table, &["class", "onset", "module"]),
-        ClassName::Disturb => has_only_names(table, &["class", "onset", "module", "mask"]),
-        ClassName::Flip => has_only_names(table, &["class", "onset", "word", "mask"]),
-        ClassName::Timing => has_only_names(table, &["class", "onset", "offset"]),
-        ClassName::Wild => has_only_names(table, &["class", "onset", "questions", "opens"]),
-        ClassName::PathOpen => has_only_names(table, &["class", "onset", "path"]),
-        ClassName::Lapse => has_only_names(table, &["class", "onset", "after", "every"]),
-        ClassName::Halt | ClassName::Path1Closed | ClassName::Path2Closed => has_only_names(
-            table,
-            &["class", "onset"],
-        ),
-    }
+    table.keys().all(|text| is_name_of(name, text.as_str()))
+}
+
+/// Whether a name may stand in the table of a fault of this class.
+fn is_name_of(name: ClassName, text: &str) -> bool
+    ensures { result ≡ is_among (names_with (own_keys name)) text.now }
+{
+    "class" == text || is_onset_or_own(name, text)
+}
+
+fn is_onset_or_own(name: ClassName, text: &str) -> bool
+    ensures { result ≡ is_among (codes "onset" ∷ map key_text (own_keys name)) text.now }
+{
+    "onset" == text || is_own_key(name, text)
+}
+
+fn is_own_key(name: ClassName, text: &str) -> bool
+    ensures { result ≡ is_among (map key_text (own_keys name)) text.now }
+{
+    name.own_keys().iter().any(|key| key.text() == text)
 }

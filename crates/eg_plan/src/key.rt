@@ -3,6 +3,7 @@ ghost use Rattle.std.specs.Prelude.{◌≡◌};
 ghost use Rattle.eg_plan.specs.declared.key.CampaignFault.TheVariants as fault;
 ghost use Rattle.eg_plan.specs.Keys.{text_of};
 
+use eg_fault::FaultKey;
 use eg_toml::DocumentFault;
 use std::alloc::{AllocError, AllocFailed};
 
@@ -27,32 +28,8 @@ pub enum RunKey {
     Class,
     /// `onset`: the first tick at which the fault acts.
     Onset,
-    /// `track`: a track of a sensor.
-    Track,
-    /// `values`: what the track reads in turn.
-    Values,
-    /// `add`: by how much a reading is off.
-    Add,
-    /// `mask`: the bits that are flipped or mixed in.
-    Mask,
-    /// `at`: where the plate is held.
-    At,
-    /// `module`: a module of level 2.
-    Module,
-    /// `word`: a word of level 2.
-    Word,
-    /// `offset`: the tick of a period at which answers are sent.
-    Offset,
-    /// `questions`: the questions that are asked in turn.
-    Questions,
-    /// `opens`: whether path 2 is ordered open, in turn.
-    Opens,
-    /// `path`: a shut-off path.
-    Path,
-    /// `after`: the ticks after the onset at which level 2 doesn't run.
-    After,
-    /// `every`: after how many ticks the ticks of `after` come again.
-    Every,
+    /// An own key of the fault's class.
+    Own(FaultKey),
     /// A name that may not stand there.
     Unknown,
 }
@@ -122,19 +99,7 @@ impl RunKey {
             RunKey::Faults => "faults",
             RunKey::Class => "class",
             RunKey::Onset => "onset",
-            RunKey::Track => "track",
-            RunKey::Values => "values",
-            RunKey::Add => "add",
-            RunKey::Mask => "mask",
-            RunKey::At => "at",
-            RunKey::Module => "module",
-            RunKey::Word => "word",
-            RunKey::Offset => "offset",
-            RunKey::Questions => "questions",
-            RunKey::Opens => "opens",
-            RunKey::Path => "path",
-            RunKey::After => "after",
-            RunKey::Every => "every",
+            RunKey::Own(key) => key.text(),
             RunKey::Unknown => "unknown",
         }
     }

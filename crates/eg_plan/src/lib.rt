@@ -4,7 +4,6 @@
 //! crates above: nothing here uses `eg_tick`.
 #![tactic(auto)]
 
-mod class_name;
 mod contents;
 mod engine;
 mod fault;

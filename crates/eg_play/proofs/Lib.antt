@@ -4,6 +4,5 @@ pub mod SurplusLaws
 pub mod MarginLaws
 pub mod HeadlineLemmas
 pub mod PlayLemmas
-pub mod SpellingLemmas
 pub mod SweepLemmas
 pub mod RowLemmas

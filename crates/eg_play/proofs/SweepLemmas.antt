@@ -20,20 +20,20 @@ use Rattle.eg_model.specs.Engines.{bench_of}
 use Rattle.eg_campaign.specs.Plays.{IsPlayable, EngineRun, run_with}
 use Rattle.eg_campaign.specs.Groups.{input_under, inputs_under, rows_of_group, facts_by}
 use Rattle.eg_tick.proofs.CountLemmas.{out_before}
-use Rattle.eg_sweep.specs.declared.grid.SweepFault.{SweepFault}
-use Rattle.eg_sweep.specs.declared.grid.SweepFault.TheVariants as fault
-use Rattle.eg_sweep.specs.Grid.{onset_count, onsets, swept_faults}
-use Rattle.eg_sweep.proofs.GridLemmas.{onsets_law}
-use Rattle.eg_sweep.proofs.ListedLemmas.{swept_valid}
-use Rattle.eg_sweep.specs.Table.{table_of}
-use Rattle.eg_sweep.specs.Laws.{ReactsIn, IsBounded}
-use Rattle.eg_sweep.proofs.BoundLemmas.{table_bounded}
+use Rattle.eg_table.specs.declared.grid.SweepFault.{SweepFault}
+use Rattle.eg_table.specs.declared.grid.SweepFault.TheVariants as fault
+use Rattle.eg_table.specs.Grid.{onset_count, onsets, swept_faults}
+use Rattle.eg_table.proofs.GridLemmas.{onsets_law}
+use Rattle.eg_table.proofs.ListedLemmas.{swept_valid}
+use Rattle.eg_table.specs.Sweep.{table_of}
+use Rattle.eg_table.specs.SweepLaws.{ReactsIn, IsBounded}
+use Rattle.eg_table.proofs.BoundLemmas.{table_bounded}
 use Rattle.eg_base.specs.Outside.{ShownSink}
 use Rattle.eg_tick.specs.Weights.{TickCount}
 use Rattle.eg_outcome.specs.declared.outcome.Outcome.{Outcome}
 use Rattle.eg_outcome.specs.declared.outcome.Outcome.TheVariants as outcome
-use Rattle.eg_sweep.specs.Grid.{is_too_large}
-use Rattle.eg_sweep.specs.Texts.{sweep_text_of}
+use Rattle.eg_table.specs.Grid.{is_too_large}
+use Rattle.eg_table.specs.SweepTexts.{sweep_text_of}
 use Rattle.eg_outcome.specs.Changes.{Change, change}
 use Rattle.eg_play.specs.Ends.{GridEnds, Plays, Sweeps}
 use Rattle.eg_play.specs.Sweeping.{without_reset, without_resets, faults_over, runs_over, table_over, swept_text}

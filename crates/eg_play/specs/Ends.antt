@@ -23,8 +23,8 @@ use Rattle.eg_outcome.specs.declared.outcome.Outcome.TheVariants as outcome
 use Rattle.eg_outcome.specs.declared.outcome.Refusal.TheVariants as refusal
 use Rattle.eg_outcome.specs.declared.outcome.Role.{Role}
 use Rattle.eg_outcome.specs.declared.outcome.Role.TheVariants as role
-use Rattle.eg_sweep.specs.Grid.{is_too_large}
-use Rattle.eg_sweep.specs.Laws.{IsBounded}
+use Rattle.eg_table.specs.Grid.{is_too_large}
+use Rattle.eg_table.specs.SweepLaws.{IsBounded}
 use Rattle.eg_play.specs.Files.{campaign_file, trace_file}
 use Rattle.eg_play.specs.Inputs.{ImageComes, InputComes, InputsCome, FindsInput, AcceptsInput}
 use Rattle.eg_play.specs.Headline.{KeepsHeadline}

@@ -6,10 +6,10 @@ use Rattle.eg_fault.specs.declared.class.Fault.{Fault}
 use Rattle.eg_values.specs.Calibration.{CalibrationParts}
 use Rattle.eg_campaign.specs.declared.play.RunInput.{RunInput}
 use Rattle.eg_campaign.specs.Groups.{inputs_under, facts_by}
-use Rattle.eg_sweep.specs.declared.row.SweepRow.{SweepRow}
-use Rattle.eg_sweep.specs.Grid.{swept_faults}
-use Rattle.eg_sweep.specs.Table.{table_of}
-use Rattle.eg_sweep.specs.Texts.{sweep_text_of}
+use Rattle.eg_table.specs.declared.sweep_row.SweepRow.{SweepRow}
+use Rattle.eg_table.specs.Grid.{swept_faults}
+use Rattle.eg_table.specs.Sweep.{table_of}
+use Rattle.eg_table.specs.SweepTexts.{sweep_text_of}
 
 -- this drive row, but without a reset of the unit
 abbrev pub without_reset : DriveRow → DriveRow

@@ -9,7 +9,6 @@ mod campaign;
 mod end;
 mod input;
 mod inputs;
-mod laws;
 mod named;
 mod recording;
 mod report;
@@ -23,7 +22,6 @@ mod texts;
 mod traces;
 
 pub use end::End;
-pub use laws::classes_are_spelt_as_in_campaigns;
 pub use named::{NamedRun, undriven_named};
 pub use recording::record;
 pub use running::run;

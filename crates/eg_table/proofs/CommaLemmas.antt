@@ -2,15 +2,19 @@
 use Rattle.std.proofs.Common.{◌≡◌, ◌∙◌, ℕ, suc, ◌+◌, ◌%◌, ◌≤◌, ◌<◌, ◌==◌, Bool, true, false, not, ◌&&◌, List, [], ◌∷◌, ◌++◌, All, map, refl, ap, arith, pos, negsuc}
 use Rattle.std.specs.Prelude.{ℤ, codes, decimal}
 use Rattle.std.specs.Fmt.{signed_decimal}
-use Rattle.std.specs.List.{concat}
+use Rattle.std.specs.List.{AllByRecursion, concat}
 use Rattle.std.proofs.Math.Nat.{mod-lt}
 use Rattle.std.proofs.lemmas.Bool.{and_from, ne_eqb}
 use Rattle.std.proofs.lemmas.Fmt.{decimal_by_steps}
 use Rattle.std.proofs.lemmas.List.Elements.{All-head, All-tail, All-weaker}
 use Rattle.std.proofs.lemmas.List.Folds.{list_all-append}
+use Rattle.eg_fault.specs.declared.class.Class.{Class}
 use Rattle.eg_fault.specs.declared.class.Class.TheVariants.{Script, Offset, Bus, Plate, Skip, Disturb, Flip, Halt, Timing, Wild, Path1Closed, Path2Closed, PathOpen, Lapse}
+use Rattle.eg_fault.specs.declared.key.FaultKey.{FaultKey}
+use Rattle.eg_fault.specs.declared.key.FaultKey.TheVariants.{Track}
 use Rattle.eg_fault.specs.Faults.{IsOffset, IsValidClass}
-use Rattle.eg_table.specs.Keys.{keys_text, number_item, number_items, truth_item, truth_items}
+use Rattle.eg_fault.specs.Names.{key_text, Held, held, number_item, number_items, truth_item, truth_items, item_text, items_text}
+use Rattle.eg_fault.specs.Names as it
 use Rattle.eg_table.specs.Laws.{has_no_comma, KeysHaveNoComma}
 
 abbrev Plain : List ℕ → Type 0
@@ -55,48 +59,54 @@ signed (negsuc less) offset =
     both (45 ∷ []) (decimal (suc less)) (unfold has_no_comma in refl)
     (number (suc less) (let most = offset.1 in omega (arith, most)))
 
--- words, a number, and words again
-between : (first : List ℕ) (n : ℕ) (second : List ℕ) → Plain first → n ≤ 65535 → Plain second → Plain (first ++ decimal n ++ second)
-between first n second one small two = both (first ++ decimal n) second (named first n one small) two
+-- ---- keys with what they hold ----
 
--- and another number behind them
-named_twice : (first second : List ℕ) (n m : ℕ) → Plain first → Plain second → n ≤ 65535 → m ≤ 65535 →
-    Plain (first ++ decimal n ++ second ++ decimal m)
-named_twice first second n m one two small few = named (first ++ decimal n ++ second) m (between first n second one small two) few
+key : (key : FaultKey) → Plain (key_text key)
+unfolding has_no_comma
+key Track = refl
+key _ = refl
 
--- words, numbers, and words again
-around : (first : List ℕ) (ns : List ℕ) (second : List ℕ) → Plain first → All (λ n. n ≤ 65535) ns → Plain second →
-    Plain (first ++ number_items ns ++ second)
-around first ns second one small two = both (first ++ number_items ns) second (both first (number_items ns) one (numbers ns small)) two
+-- no number is more than a word
+abbrev IsSmall : FaultKey × Held → Type 0
+IsSmall (key, it.number n) = n ≤ 65535
+IsSmall (key, it.shift add) = IsOffset add
+IsSmall (key, it.numbers ns) = All (λ n. n ≤ 65535) ns
+IsSmall (key, it.truths bs) = Unit {0}
+
+-- with a blank behind
+blank : (text : List ℕ) → Plain text → Plain (text ++ codes " ")
+blank text plain = both text (codes " ") plain (unfold has_no_comma in refl)
+
+item : (item : FaultKey × Held) → IsSmall item → Plain (item_text item)
+item (k, it.number n) small = named (key_text k ++ codes " ") n (blank (key_text k) (key k)) small
+item (k, it.shift add) small = both (key_text k ++ codes " ") (signed_decimal add) (blank (key_text k) (key k)) (signed add small)
+item (k, it.numbers ns) small = both (key_text k) (number_items ns) (key k) (numbers ns small)
+item (k, it.truths bs) small = both (key_text k) (truth_items bs) (key k) (truths bs)
+
+items : (held : List (FaultKey × Held)) → AllByRecursion IsSmall held → Plain (items_text held)
+unfolding items_text
+items [] small = unfold has_no_comma in refl
+items (one ∷ []) small = item one small.0
+items (one ∷ next ∷ more) small =
+    both (item_text one ++ codes " ") (items_text (next ∷ more)) (blank (item_text one) (item one small.0)) (items (next ∷ more) small.1)
+
+held-small : (class : Class) → IsValidClass class → AllByRecursion IsSmall (held class)
+unfolding held IsValidClass
+held-small (Script track values) valid = ((let low = valid.0 in omega (arith, low)), (valid.2, tt))
+held-small (Offset track add) valid = ((let low = valid.0 in omega (arith, low)), (valid.1, tt))
+held-small (Bus mask) valid = (valid.1, tt)
+held-small (Plate at) valid = (omega (arith, valid), tt)
+held-small (Skip index) valid = (omega (arith, valid), tt)
+held-small (Disturb index mask) valid = ((let low = valid.1 in omega (arith, low)), (valid.2.1, tt))
+held-small (Flip word mask) valid = ((let low = valid.0 in omega (arith, low)), (valid.1.1, tt))
+held-small Halt valid = tt
+held-small (Timing offset) valid = (omega (arith, valid), tt)
+held-small (Wild questions opens) valid = (valid.1, (tt, tt))
+held-small Path1Closed valid = tt
+held-small Path2Closed valid = tt
+held-small (PathOpen path) valid = ((let low = valid.1 in omega (arith, low)), tt)
+held-small (Lapse after every) valid =
+    (All-weaker (λ k. k ≤ 19999) (λ k. k ≤ 65535) (λ k low. omega (arith, low)) after valid.1, ((let few = valid.3 in omega (arith, few)), tt))
 
 pub keys_have_no_comma : KeysHaveNoComma
-unfolding keys_text has_no_comma IsValidClass
-keys_have_no_comma (Script track values) valid =
-    both (codes "track " ++ decimal track ++ codes " values") (number_items values)
-    (between (codes "track ") track (codes " values") refl (let low = valid.0 in omega (arith, low)) refl)
-    (numbers values valid.2)
-keys_have_no_comma (Offset track add) valid =
-    both (codes "track " ++ decimal track ++ codes " add ") (signed_decimal add)
-    (between (codes "track ") track (codes " add ") refl (let low = valid.0 in omega (arith, low)) refl)
-    (signed add valid.1)
-keys_have_no_comma (Bus mask) valid = named (codes "mask ") mask refl valid.1
-keys_have_no_comma (Plate at) valid = named (codes "at ") at refl (omega (arith, valid))
-keys_have_no_comma (Skip index) valid = named (codes "module ") index refl (omega (arith, valid))
-keys_have_no_comma (Disturb index mask) valid =
-    named_twice (codes "module ") (codes " mask ") index mask refl refl (let low = valid.1 in omega (arith, low)) valid.2.1
-keys_have_no_comma (Flip word mask) valid =
-    named_twice (codes "word ") (codes " mask ") word mask refl refl (let low = valid.0 in omega (arith, low)) valid.1.1
-keys_have_no_comma Halt valid = refl
-keys_have_no_comma (Timing offset) valid = named (codes "offset ") offset refl (omega (arith, valid))
-keys_have_no_comma (Wild questions opens) valid =
-    both (codes "questions" ++ number_items questions ++ codes " opens") (truth_items opens)
-    (around (codes "questions") questions (codes " opens") refl valid.1 refl)
-    (truths opens)
-keys_have_no_comma Path1Closed valid = refl
-keys_have_no_comma Path2Closed valid = refl
-keys_have_no_comma (PathOpen path) valid = named (codes "path ") path refl (let low = valid.1 in omega (arith, low))
-keys_have_no_comma (Lapse after every) valid =
-    named (codes "after" ++ number_items after ++ codes " every ") every
-    (around (codes "after") after (codes " every ") refl
-    (All-weaker (λ k. k ≤ 19999) (λ k. k ≤ 65535) (λ k low. omega (arith, low)) after valid.1) refl)
-    (let few = valid.3 in omega (arith, few))
+keys_have_no_comma class valid = items (held class) (held-small class valid)

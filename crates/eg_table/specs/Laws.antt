@@ -6,8 +6,8 @@ use Rattle.eg_fault.specs.Effects.{no_effects}
 use Rattle.eg_fault.specs.declared.class.Class.{Class}
 use Rattle.eg_fault.specs.declared.class.Fault.{Fault}
 use Rattle.eg_fault.specs.Faults.{effects_of, effects, IsValid, IsValidClass}
+use Rattle.eg_fault.specs.Names.{keys_text}
 use Rattle.eg_table.specs.Acting.{has_effect, has_acted}
-use Rattle.eg_table.specs.Keys.{keys_text}
 
 -- where a class has no effect, nothing is out of order
 abbrev pub OthersDoNothing : Type 0

@@ -4,15 +4,14 @@
 use Rattle.std.specs.Prelude.{ℕ, Bool, List, ◌++◌, codes, decimal, Option, Some, None, option_map}
 use Rattle.eg_word.specs.declared.registers.Trap.{Trap}
 use Rattle.eg_fault.specs.declared.class.Fault.{Fault}
+use Rattle.eg_fault.specs.Names.{name_of, class_text, keys_text}
 use Rattle.eg_record.specs.declared.facts.Facts.{Facts}
 use Rattle.eg_record.specs.declared.reactions.Reactions.{Reactions}
 use Rattle.eg_record.specs.declared.run_facts.RunFacts.{RunFacts}
 use Rattle.eg_record.specs.declared.watch.Watch.{Watch}
 use Rattle.eg_record.specs.Reactions.{is_settled}
 use Rattle.eg_record.specs.Texts.{bit, trap_name, watch_name}
-use Rattle.eg_sweep.specs.Texts.{class_name}
 use Rattle.eg_table.specs.Acting.{has_acted}
-use Rattle.eg_table.specs.Keys.{keys_text}
 
 -- the line above the runs: the names of the columns
 unfoldable pub table_header : List ℕ
@@ -33,7 +32,7 @@ bit_column (Some b) = codes "," ++ bit b
 -- the class of a fault, as campaigns spell it
 unfoldable pub class_column : Option Fault → List ℕ
 class_column None = codes ",none"
-class_column (Some fault) = codes "," ++ class_name fault.class
+class_column (Some fault) = codes "," ++ class_text (name_of fault.class)
 
 -- `class` and `onset`
 unfoldable pub class_columns : Option Fault → List ℕ

@@ -6,10 +6,8 @@ ghost use Rattle.eg_table.specs.Texts.{number_column, reaction_columns, settled_
 ghost use Rattle.eg_table.specs.Texts.{table_line, tick_columns, trap_columns, watch_columns};
 
 use crate::has_acted;
-use crate::keys::push_keys;
 use eg_fault::Fault;
 use eg_record::{Facts, Reactions, RunFacts, Watch, trap_name};
-use eg_sweep::class_name;
 use eg_word::Trap;
 use std::alloc::AllocError;
 
@@ -76,7 +74,7 @@ fn push_class(text: &mut String, fault: Option<&Fault>) -> Result<(), AllocError
         ≡ string_bytes text.old ++ class_column (option_copied fault.entry)) }
 {
     match fault {
-        Some(fault) => write!(text, ",{}", class_name(&fault.class)),
+        Some(fault) => write!(text, ",{}", fault.class.name().text()),
         None => text.push_str(",none"),
     }
 }
@@ -89,7 +87,7 @@ fn push_own_keys(text: &mut String, fault: Option<&Fault>) -> Result<(), AllocEr
 {
     text.push_str(",")?;
     match fault {
-        Some(fault) => push_keys(text, &fault.class),
+        Some(fault) => fault.class.push_keys(text),
         None => Ok(()),
     }
 }

@@ -3,8 +3,8 @@ use Rattle.std.specs.Prelude.{string_bytes}
 use Rattle.std.specs.List.{concat, zip}
 use Rattle.std.specs.Iterator.Adapters.{zip_first, zip_second}
 use Rattle.std.specs.Slice.Iter.{iter_rest}
-use Rattle.eg_sweep.proofs.PairLemmas.{zip-next, zip-end}
-use Rattle.eg_sweep.proofs.TextLemmas.{written, all_written}
+use Rattle.eg_table.proofs.PairLemmas.{zip-next, zip-end}
+use Rattle.eg_table.proofs.TextLemmas.{written, all_written}
 use Rattle.eg_play.specs.Texts.{header_of, line_of}
 use Rattle.eg_play.proofs.RowLemmas.{rows_by-is}
 use Rattle.eg_play.proofs.rows.rows_text.Goals as goal

@@ -1,7 +1,7 @@
 use Rattle.std.proofs.Common.{◌≡◌, ◌∙◌, ap, subst, map}
 use Rattle.eg_campaign.specs.Groups.{inputs_under, facts_by}
-use Rattle.eg_sweep.specs.Table.{table_of}
-use Rattle.eg_sweep.specs.Texts.{sweep_text_of}
+use Rattle.eg_table.specs.Sweep.{table_of}
+use Rattle.eg_table.specs.SweepTexts.{sweep_text_of}
 use Rattle.eg_outcome.specs.Changes.{change, change_of}
 use Rattle.eg_outcome.specs.Outcomes.{LineEnds}
 use Rattle.eg_play.proofs.HeadlineLemmas.{keep_headline}

@@ -1,6 +1,6 @@
 use Rattle.std.proofs.Common.{◌∙◌, refl, sym, ap, subst, ◌<◌, ◌≤◌, All, length}
 use Rattle.std.specs.Prelude.{Err}
-use Rattle.eg_sweep.specs.Grid.{is_too_large, swept_faults}
+use Rattle.eg_table.specs.Grid.{is_too_large, swept_faults}
 use Rattle.eg_fault.specs.Faults.{IsValid}
 use Rattle.eg_campaign.specs.Plays.{IsPlayable}
 use Rattle.eg_outcome.specs.Changes.{change, change_of}

@@ -1,6 +1,6 @@
 use Rattle.std.specs.Prelude.{string_bytes}
 use Rattle.std.specs.Option.{option_copied}
-use Rattle.eg_sweep.proofs.TextLemmas.{on_ok}
+use Rattle.eg_table.proofs.TextLemmas.{on_ok}
 use Rattle.eg_table.proofs.LineLemmas.{margins_line-is}
 use Rattle.eg_table.proofs.margins.push_margins_line.Goals as goal
 

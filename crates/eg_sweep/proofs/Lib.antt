@@ -1,9 +1,0 @@
-pub mod GridLemmas
-pub mod ListedLemmas
-pub mod GreatestLemmas
-pub mod RowLemmas
-pub mod PairLemmas
-pub mod TextLemmas
-pub mod TableLemmas
-pub mod BoundLemmas
-mod Worked

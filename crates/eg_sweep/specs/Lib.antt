@@ -1,4 +1,0 @@
-pub mod Grid
-pub mod Table
-pub mod Texts
-pub mod Laws
