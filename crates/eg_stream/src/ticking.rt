@@ -1,6 +1,5 @@
 // A controller that makes a tick of each answer.
 ghost use Rattle.std.specs.Prelude.{◌≡◌, ℕ, ◌≤◌, ◌<◌, ◌+◌, ◌%◌, ◌^◌, ◌∷◌, [], List, Ok, length};
-ghost use Rattle.std.specs.Option.{option_copied};
 ghost use Rattle.eg_guard.specs.declared.regions.TheConstants.{DATA as CODE_END};
 ghost use Rattle.eg_fault.specs.Faults.{IsNoneOrValid};
 ghost use Rattle.eg_model.specs.Spans.{next};
@@ -33,21 +32,11 @@ pub(crate) fn coupled_controller(
     ensures { IsCoupled (unit_of calibration.now input.now) [] result }
 {
     let engine = ForeignEngine::new(calibration.rules().kt);
-    let fault = copied(input.plan.fault.as_ref());
+    let fault = Fault::copied(input.plan.fault.as_ref());
     let image = input.image.as_slice();
     match Controller::new(calibration.copy(), image, fault, FlatMemory::new(), engine) {
         Ok(controller) => controller,
         Err(_) => unreachable!("a sure memory never runs out"),
-    }
-}
-
-/// An equal fault, if any.
-fn copied(fault: Option<&Fault>) -> Option<Fault>
-    ensures { result ≡ option_copied fault.entry }
-{
-    match fault {
-        Some(fault) => Some(fault.copy()),
-        None => None,
     }
 }
 

@@ -90,18 +90,8 @@ pub fn bench_begin<E: BenchedEngine, M: Guarded + Drop>(
     ensures sure { IsTrue (M.shows memory).sure → IsOk result }
 {
     let engine = E::at_rest(calibration.plant().copy());
-    let fault = copied(fault);
+    let fault = Fault::copied(fault);
     Controller::new(calibration.copy(), image, fault, memory, engine)
-}
-
-/// An equal fault, if any.
-fn copied(fault: Option<&Fault>) -> Option<Fault>
-    ensures { result ≡ option_copied fault.entry }
-{
-    match fault {
-        Some(fault) => Some(fault.copy()),
-        None => None,
-    }
 }
 
 /// Makes the next tick of a run on the bench, as `bench_row` does, by a controller over any memory, and tells
