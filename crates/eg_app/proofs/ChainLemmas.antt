@@ -4,6 +4,8 @@ use Rattle.std.specs.Prelude.{Result, Ok, Err}
 use Rattle.eg_outcome.specs.Outcomes.{WorkFollows, Then}
 use Rattle.eg_outcome.specs.declared.outcome.Outcome.{Outcome}
 use Rattle.eg_outcome.specs.declared.outcome.Outcome.TheVariants.{Done}
+use Rattle.eg_app.specs.declared.job.Job.{Job}
+use Rattle.eg_app.specs.Gathered.{Makes}
 
 -- ---- results ----
 
@@ -46,3 +48,15 @@ pub of_value : {X Y T : Type 0} {Comes : Result X Outcome → Type 0} {more : X 
     → ((read : Result X Outcome) × Comes read × Then more read (Ok y)) → ((x : X) → Comes (Ok x) → more x (Ok y) → T) → T
 of_value y (Ok x, comes, rest) later = later x comes rest
 of_value y (Err e, comes, same) later = absurd (no_value y e (sym same))
+
+-- ---- a job that is made of what comes ----
+
+-- what holds of each end without what comes, holds of the end without a job
+pub without_job : {X : Type 0} (P : Outcome → Type 0) (of : X → Job) {Comes : Result X Outcome → Type 0} (end : Outcome)
+    → Makes of Comes (Err end) → ((e : Outcome) → Comes (Err e) → P e) → P end
+without_job P of end come first = of_chain P end come first (λ x read same. absurd (no_value (of x) end same))
+
+-- where there is a job, it is made of what came
+pub with_job : {X T : Type 0} (of : X → Job) {Comes : Result X Outcome → Type 0} (one : Job)
+    → Makes of Comes (Ok one) → ((x : X) → Comes (Ok x) → one ≡ of x → T) → T
+with_job of one come later = of_value one come (λ x read made. later x read (same_value (Ok one) one (of x) refl made))

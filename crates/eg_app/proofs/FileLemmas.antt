@@ -67,9 +67,13 @@ file_stops file says name store is Usage comes = tt
 file_stops file says name store is WriteFault comes = tt
 file_stops file says name store is Memory comes = tt
 
--- and at the calibration it isn't Done
+-- a call never ends Done at a file,
+pub file_never : {X : Type 0} (file : Role) (says : List ℕ → Result X Refusal) (name : List ℕ) (store : Change ShownStore) (end : Outcome)
+    → FileComes file says name store (Err end) → end ≡ Done → ⊥
+file_never file says name store end comes done = (subst (λ (e : Outcome). FileComes file says name store (Err e)) done comes).1.2
+
+-- nor at the calibration
 pub calibration_never : (calibration : Option (List ℕ)) (store : Change ShownStore) (end : Outcome)
     → CalibrationComes calibration store (Err end) → end ≡ Done → ⊥
 calibration_never None store end comes done = absurd cc
-calibration_never (Some name) store end comes done =
-    (subst (λ (e : Outcome). FileComes role.Calibration calibration_file name store (Err e)) done comes).1.2
+calibration_never (Some name) store end comes done = file_never role.Calibration calibration_file name store end comes done

@@ -2,8 +2,9 @@ pub mod ChainLemmas
 pub mod FileLemmas
 pub mod InputLemmas
 pub mod PlayLemmas
-pub mod MissingLemmas
 pub mod EndsLemmas
 pub mod HeadlineLemmas
-pub mod SoakLemmas
+pub mod MissingLemmas
+pub mod WorkLemmas
 pub mod ShownLemmas
+pub mod SoakLemmas

@@ -1,79 +1,111 @@
--- Which files `run`, `table`, `record` and `sweep` say to be missing, from how they end.
-use Rattle.std.proofs.Common.{◌≡◌, ◌∙◌, List, ℕ, Bool, true, false, Option, Some, None, length, sym, subst}
-use Rattle.std.specs.Prelude.{Err, IsTrue}
-use Rattle.eg_base.specs.Outside.{ShownStore, ShownSink, IsMissing}
+-- Which files a call says to be missing, from what it gathers.
+use Rattle.std.proofs.Common.{◌≡◌, List, ℕ, Option, Some, None, inl, inr, refl, ap, subst}
+use Rattle.std.specs.Prelude.{◌↔◌, ◌⊎◌, Result, Ok, Err, IfSome, IsTrue}
+use Rattle.eg_base.specs.Outside.{ShownStore, IsMissing}
 use Rattle.eg_values.specs.Calibration.{CalibrationParts}
 use Rattle.eg_outcome.specs.Changes.{Change}
 use Rattle.eg_outcome.specs.declared.outcome.Outcome.{Outcome}
-use Rattle.eg_outcome.specs.declared.outcome.Outcome.TheVariants.{ReadFault}
+use Rattle.eg_outcome.specs.declared.outcome.Outcome.TheVariants.{Done, Memory, ReadFault}
+use Rattle.eg_outcome.specs.declared.outcome.Role.{Role}
 use Rattle.eg_outcome.specs.declared.outcome.Role.TheVariants as role
-use Rattle.eg_outcome.specs.Outcomes.{LineEnds}
-use Rattle.eg_outcome.specs.Reads.{FileComes}
-use Rattle.eg_outcome.specs.Calibrations.{calibration_file, CalibrationComes, MissesCalibration}
-use Rattle.eg_table.specs.Grid.{is_too_large}
-use Rattle.eg_play.specs.Files.{campaign_file}
-use Rattle.eg_play.specs.declared.telling.Telling.{Telling}
-use Rattle.eg_play.specs.Ends.{Call, CommandEnds, CampaignEnds, RunsEnd, NamedEnds, RecordEnds, SweepEnds, GridEnds, CampaignCommandEnds, RecordCommandEnds, SweepCommandEnds}
-use Rattle.eg_app.specs.Words.{run, record_run, sweep}
-use Rattle.eg_app.specs.Ends.{TellsMissing, TellsMissingToPlay}
-use Rattle.eg_app.proofs.ChainLemmas.{of_work}
-use Rattle.eg_app.proofs.FileLemmas.{IsStop, file_stops}
-use Rattle.eg_app.proofs.InputLemmas.{inputs_stop, named_stops}
+use Rattle.eg_outcome.specs.Outcomes.{IsDoneOrMemory}
+use Rattle.eg_outcome.specs.Calibrations.{CalibrationComes, MissesCalibration}
+use Rattle.eg_desk.specs.Ends.{read_alone}
+use Rattle.eg_app.specs.declared.job.Job.{Job}
+use Rattle.eg_app.specs.Words.{Command, by, soak, answers, asm, dis, Work}
+use Rattle.eg_app.specs.Gathered.{GathersBy}
+use Rattle.eg_app.specs.Missing.{EndsBy, own_file, TellsExactly, TellsMissing, TellsMissingBehind, TellsMissingBy, TellsMissingOwn}
+use Rattle.eg_app.proofs.FileLemmas.{IsStop, calibration_done, calibration_never}
+use Rattle.eg_app.proofs.HeadlineLemmas.{work_stops}
 
--- the outcome isn't that the calibration can't be read
-abbrev IsOther : Outcome → Type 0
-IsOther o = o ≡ ReadFault role.Calibration → ⊥
+pub ends_by : {X : Type 0} (come : Result X Outcome) (e : Outcome) → come ≡ Err e → EndsBy come e
+ends_by (Ok x) e is = absurd cc
+ends_by (Err end) e is = cc
 
-line_other : (line : List ℕ) (out : Change ShownSink) (o : Outcome) → LineEnds line out o → IsOther o
-line_other line out o ends fault = subst (λ (e : Outcome). LineEnds line out e) fault ends
+memory_left : (o : Outcome) → IsDoneOrMemory o → (o ≡ Done → ⊥) → o ≡ Memory
+memory_left Done is early = absurd (early refl)
+memory_left Memory is early = refl
+memory_left _ is early = absurd is
 
-grid_other : (large : Bool) (nothing work : Type 0) (o : Outcome) → GridEnds large nothing work o → (work → IsOther o) → IsOther o
-grid_other true nothing work o ends never fault = absurd (let refused = sym ends.0 ∙ fault in cc)
-grid_other false nothing work o ends never fault = never ends fault
-
--- the calibration can't be read only where it is missing
-calibration_missing : (calibration : Option (List ℕ)) (store : Change ShownStore) → IsTrue store.before.sure
-    → (end : Outcome) → CalibrationComes calibration store (Err end) → end ≡ ReadFault role.Calibration → MissesCalibration calibration store.before
-calibration_missing None store sure end comes fault = absurd cc
-calibration_missing (Some name) store sure end comes fault =
-    (subst (λ (e : Outcome). FileComes role.Calibration calibration_file name store (Err e)) fault comes).2 sure
-
--- over a sure store, what eg_play tells where the calibration or the campaign is missing
-abbrev pub IsTold : Option (List ℕ) → List ℕ → ShownStore → Outcome → Type 0
-IsTold calibration campaign store o = (IsTrue store.sure → MissesCalibration calibration store → o ≡ ReadFault role.Calibration)
-    × (IsTrue store.sure → calibration ≡ None → IsMissing store.files campaign → o ≡ ReadFault role.Campaign)
-
--- and nothing else is told so, if what the command does by its calibration meets no fault of reading one
-command_missing : (calibration : Option (List ℕ)) (campaign : List ℕ) (work : CalibrationParts → Call → Outcome → Type 0) (call : Call) (o : Outcome)
-    → CommandEnds calibration work call o → ((cal : CalibrationParts) → work cal call o → IsOther o)
-    → IsTold calibration campaign call.store.before o → IsTrue call.store.before.sure → TellsMissingToPlay calibration campaign call.store.before o
-command_missing calibration campaign work call o ends never told sure = record {
-  of_calibration = (
-    of_work (λ (e : Outcome). e ≡ ReadFault role.Calibration → MissesCalibration calibration call.store.before) o ends
-        (calibration_missing calibration call.store sure) (λ cal come works fault. absurd (never cal works fault)),
-    told.0 sure,
-  );
-  of_campaign = told.1 sure;
+-- the calibration didn't come
+pub missing_first : (calibration : Option (List ℕ)) (work : Work) (store : Change ShownStore) (end : Outcome)
+    → CalibrationComes calibration store (Err end)
+    → (IsTrue store.before.sure → ((let come : Result CalibrationParts Outcome = Err end in come ≡ Err (ReadFault role.Calibration))
+    ↔ MissesCalibration calibration store.before))
+    → TellsMissingBy calibration work store.before (λ e. end ≡ e)
+missing_first None work store end comes told = absurd cc
+missing_first (Some name) work store end comes told = record {
+  of_calibration = λ sure. (λ is. (told sure).0 (ap (λ o. Err o) is), λ missing. ends_by (let come : Result CalibrationParts Outcome = Err end in come) _ ((told sure).1 missing));
+  of_own = λ sure accepts there. own (own_file work)
+      (memory_left end (calibration_done (Some name) store (inr (sure, there)) accepts end comes) (calibration_never (Some name) store end comes));
 }
+  where
+    own : (file : Option (Role × List ℕ)) → end ≡ Memory
+        → IfSome file (λ one. IsMissing store.before.files one.1 → (end ≡ ReadFault one.0) ⊎ (end ≡ Memory))
+    own None is = tt
+    own (Some one) is = λ missing. inr is
 
-pub run_missing : (telling : Telling) (calibration : Option (List ℕ)) (campaign : List ℕ) (call : Call) (o : Outcome)
-    → CampaignCommandEnds telling calibration campaign call o
-    → IsTold calibration campaign call.store.before o → TellsMissing (Some (run telling calibration campaign)) call.store.before o
-run_missing telling calibration campaign call o ends = command_missing calibration campaign (λ cal. CampaignEnds campaign (RunsEnd telling cal)) call o ends (λ cal works.
-    of_work IsOther o works (λ end read fault. subst IsStop fault (file_stops role.Campaign campaign_file campaign call.store tt end read)) (λ plans read runs.
-    of_work IsOther o runs (λ end come fault. subst IsStop fault (inputs_stop call.store 1 0 plans end come))
-    (λ inputs come told. line_other _ call.out o told.1.plays.written)))
+-- it came, and what is read behind it is told
+pub missing_behind : (calibration : Option (List ℕ)) (work : Work) (store : Change ShownStore) (cal : CalibrationParts) (come : Result Job Outcome)
+    → (IsTrue store.before.sure → ((let read : Result CalibrationParts Outcome = Ok cal in read ≡ Err (ReadFault role.Calibration))
+    ↔ MissesCalibration calibration store.before))
+    → GathersBy cal work store come → TellsMissingOwn work store.before (EndsBy come) → TellsMissingBy calibration work store.before (EndsBy come)
+missing_behind calibration work store cal come told gathers own = record {
+  of_calibration = λ sure. (λ is. absurd (stops come gathers is), λ missing. absurd (ends_by (let read : Result CalibrationParts Outcome = Ok cal in read) _ ((told sure).1 missing)));
+  of_own = behind calibration;
+}
+  where
+    stops : (come : Result Job Outcome) → GathersBy cal work store come → EndsBy come (ReadFault role.Calibration) → ⊥
+    stops (Ok one) gathers is = is
+    stops (Err end) gathers is = subst IsStop is (work_stops cal work store end gathers)
 
-pub record_missing : (calibration : Option (List ℕ)) (campaign name : List ℕ) (call : Call) (o : Outcome)
-    → RecordCommandEnds calibration campaign name call o
-    → IsTold calibration campaign call.store.before o → TellsMissing (Some (record_run calibration campaign name)) call.store.before o
-record_missing calibration campaign name call o ends = command_missing calibration campaign (λ cal. NamedEnds campaign name (RecordEnds cal)) call o ends (λ cal works.
-    of_work IsOther o works (λ end come fault. subst IsStop fault (named_stops campaign name call.store end come))
-    (λ input come told. line_other _ call.out o told.1.written))
+    told_own : (file : Option (Role × List ℕ)) → IfSome file (λ one. IsMissing store.before.files one.1 → EndsBy come (ReadFault one.0))
+        → IfSome file (λ one. IsMissing store.before.files one.1 → EndsBy come (ReadFault one.0) ⊎ EndsBy come Memory)
+    told_own None tells = tt
+    told_own (Some one) tells = λ missing. inl (tells missing)
 
-pub sweep_missing : (calibration : Option (List ℕ)) (campaign name : List ℕ) (step : ℕ) (call : Call) (o : Outcome)
-    → SweepCommandEnds calibration campaign name step call o
-    → IsTold calibration campaign call.store.before o → TellsMissing (Some (sweep calibration campaign name step)) call.store.before o
-sweep_missing calibration campaign name step call o ends = command_missing calibration campaign (λ cal. NamedEnds campaign name (SweepEnds cal step)) call o ends (λ cal works.
-    of_work IsOther o works (λ end come fault. subst IsStop fault (named_stops campaign name call.store end come))
-    (λ input come told. grid_other (is_too_large (length input.drive) step) _ _ o told.1 (λ swept. line_other _ call.out o swept.plays.written)))
+    behind : (calibration : Option (List ℕ)) → TellsMissingBehind calibration work store.before (EndsBy come)
+    behind None = own
+    behind (Some name) = λ sure accepts there. told_own (own_file work) (own sure)
+
+-- ---- how the call ends ----
+
+-- not what lines come from
+abbrev pub IsOfFile : Role → Type 0
+IsOfFile role.Check = ⊥
+IsOfFile _ = Unit {0}
+
+module _ (store : ShownStore) (A B : Outcome → Type 0) (forth : (e : Outcome) → A e → B e)
+    (back : (r : Role) → IsOfFile r → B (ReadFault r) → A (ReadFault r)) where
+  exactly : (file : Role) (missing : Type 0) → IsOfFile file → TellsExactly file missing store A → TellsExactly file missing store B
+  exactly file missing is tells sure = (λ told. (tells sure).0 (back file is told), λ gone. forth (ReadFault file) ((tells sure).1 gone))
+
+  first : (file : Option (Role × List ℕ)) → IfSome file (λ one. IsMissing store.files one.1 → A (ReadFault one.0))
+      → IfSome file (λ one. IsMissing store.files one.1 → B (ReadFault one.0))
+  first None tells = tt
+  first (Some one) tells = λ missing. forth (ReadFault one.0) (tells missing)
+
+  either : (o p : Outcome) → A o ⊎ A p → B o ⊎ B p
+  either o p (inl is) = inl (forth o is)
+  either o p (inr is) = inr (forth p is)
+
+  later : (file : Option (Role × List ℕ)) → IfSome file (λ one. IsMissing store.files one.1 → A (ReadFault one.0) ⊎ A Memory)
+      → IfSome file (λ one. IsMissing store.files one.1 → B (ReadFault one.0) ⊎ B Memory)
+  later None tells = tt
+  later (Some one) tells = λ missing. either (ReadFault one.0) Memory (tells missing)
+
+  behind : (calibration : Option (List ℕ)) (work : Work) → TellsMissingBehind calibration work store A → TellsMissingBehind calibration work store B
+  behind None work tells = λ sure. first (own_file work) (tells sure)
+  behind (Some name) work tells = λ sure accepts there. later (own_file work) (tells sure accepts there)
+
+  -- how the job is performed tells of no file
+  pub missing_since : (command : Option Command) → TellsMissing command store A → TellsMissing command store B
+  missing_since (Some (by calibration work)) tells = record {
+    of_calibration = exactly role.Calibration (MissesCalibration calibration store) tt tells.of_calibration;
+    of_own = behind calibration work tells.of_own;
+  }
+  missing_since (Some (answers file)) tells = exactly role.Calibration (IsMissing store.files file) tt tells
+  missing_since (Some (asm file)) tells = exactly role.Source (IsMissing store.files file) tt tells
+  missing_since (Some (dis file)) tells = exactly read_alone (IsMissing store.files file) tt tells
+  missing_since (Some (soak seed runs)) tells = tt
+  missing_since None tells = tt

@@ -1,26 +1,24 @@
--- When runs are played to their end, from how `run`, `table`, `record` and `sweep` end.
-use Rattle.std.proofs.Common.{◌≡◌, ◌+◌, ◌∷◌, [], List, ℕ, Bool, true, false, Option, Some, None, length, subst}
-use Rattle.std.specs.Prelude.{Ok, Err}
+-- When a campaign and the files of its runs come.
+use Rattle.std.proofs.Common.{◌≡◌, ◌+◌, ◌∷◌, [], List, ℕ, Bool, true, false, Option, Some, None, length, refl, subst}
+use Rattle.std.specs.Prelude.{Result, Ok, Err}
 use Rattle.eg_base.specs.Outside.{ShownStore}
 use Rattle.eg_num.specs.Drive.{DriveRow}
-use Rattle.eg_values.specs.Calibration.{CalibrationParts}
 use Rattle.eg_plan.specs.declared.run.RunPlan.{RunPlan}
 use Rattle.eg_campaign.specs.declared.play.RunInput.{RunInput}
 use Rattle.eg_outcome.specs.Changes.{Change}
 use Rattle.eg_outcome.specs.declared.outcome.Outcome.{Outcome}
 use Rattle.eg_outcome.specs.declared.outcome.Refusal.{Refusal}
 use Rattle.eg_outcome.specs.declared.outcome.Role.TheVariants as role
-use Rattle.eg_outcome.specs.Outcomes.{IsDoneOrMemory}
-use Rattle.eg_outcome.specs.Reads.{ReadComes, Finds, Accepts}
+use Rattle.eg_outcome.specs.Outcomes.{IsDoneOrMemory, Then}
+use Rattle.eg_outcome.specs.Reads.{FileComes, ReadComes, Finds, Accepts}
 use Rattle.eg_table.specs.Grid.{is_too_large}
 use Rattle.eg_outcome.specs.Images.{image_file}
 use Rattle.eg_play.specs.Files.{campaign_file, trace_file}
 use Rattle.eg_play.specs.Inputs.{input_of, TicksCome, InputComes, InputsCome, FindsInput, AcceptsInput, FindsRuns, AcceptsRuns, too_many}
-use Rattle.eg_play.specs.declared.telling.Telling.{Telling}
-use Rattle.eg_play.specs.Ends.{Call, RunsEnd, GridEnds, SweepEnds, FoundComes, NamedComes, NamedEnds, AcceptsNamed, AcceptsGrid, CampaignEnds, run_named}
-use Rattle.eg_app.specs.Ends.{WritesWell}
-use Rattle.eg_app.proofs.ChainLemmas.{no_value, of_work, of_chain}
-use Rattle.eg_app.proofs.FileLemmas.{file_done, line_done}
+use Rattle.eg_play.specs.Ends.{FoundComes, FoundUndriven, GridComes, NamedComes, RunsCome, SweptComes, UndrivenComes, AcceptsNamed, AcceptsGrid, AcceptsUndriven, run_named}
+use Rattle.eg_app.specs.Ends.{AcceptsCampaign}
+use Rattle.eg_app.proofs.ChainLemmas.{no_value, of_chain}
+use Rattle.eg_app.proofs.FileLemmas.{file_done}
 use Rattle.eg_app.proofs.InputLemmas.{input_tells, named_tells}
 
 -- ---- the files of runs ----
@@ -59,29 +57,42 @@ found_done : (found : Option (ℕ × RunPlan)) (store : Change ShownStore) → A
 found_done None store accepts end come = absurd accepts
 found_done (Some found) store accepts end come = input_done (λ count. None) store found.0 found.1 accepts.0 accepts.1 end come
 
--- ---- the commands ----
+-- so that of a run whose drive comes from elsewhere
+undriven_found_done : (found : Option (ℕ × RunPlan)) (store : Change ShownStore) → AcceptsUndriven store found
+    → (end : Outcome) → FoundUndriven found store (Err end) → IsDoneOrMemory end
+undriven_found_done None store accepts end come = absurd accepts
+undriven_found_done (Some found) store accepts end come = ticks_done None store found.0 found.1 [] refl accepts.0 accepts.1 end come
 
--- a campaign that is found and accepted is worked off where its runs are
-pub campaign_done : (telling : Telling) (cal : CalibrationParts) (campaign : List ℕ) (call : Call) (o : Outcome)
-    → CampaignEnds campaign (RunsEnd telling cal) call o → Finds campaign call.store → Accepts campaign_file campaign call.store.before
-    → ((plans : List RunPlan) → ReadComes campaign_file campaign call.store.before (Ok plans) → FindsRuns call.store plans × AcceptsRuns call.store.before 1 0 plans)
-    → WritesWell call.out → IsDoneOrMemory o
-campaign_done telling cal campaign call o ends finds accepts files still =
-    of_work IsDoneOrMemory o ends (file_done role.Campaign campaign_file campaign call.store finds accepts)
-    (λ plans read runs. of_work IsDoneOrMemory o runs (inputs_done call.store 1 0 plans (files plans read).0 (files plans read).1)
-    (λ inputs come told. line_done _ call.out o told.1.plays.written still))
+-- ---- a campaign ----
 
--- a run that is there, and whose files are found and accepted, is worked off
-pub named_done : (campaign name : List ℕ) (work : RunInput → Call → Outcome → Type 0) (call : Call) (o : Outcome)
-    → NamedEnds campaign name work call o → Finds campaign call.store → Accepts campaign_file campaign call.store.before
-    → ((plans : List RunPlan) → ReadComes campaign_file campaign call.store.before (Ok plans) → AcceptsNamed call.store (run_named name 1 plans))
-    → ((input : RunInput) → NamedComes campaign name call.store (Ok input) → work input call o → IsDoneOrMemory o) → IsDoneOrMemory o
-named_done campaign name work call o ends finds accepts files done =
-    of_work IsDoneOrMemory o ends
-    (λ end come. of_chain IsDoneOrMemory end come (file_done role.Campaign campaign_file campaign call.store finds accepts)
-    (λ plans read rest. found_done (run_named name 1 plans) call.store (files plans read) end rest)) done
+-- where a campaign is found and accepted, a call ends only where memory runs out, or at the files of its runs
+of_campaign : {Y : Type 0} (campaign : List ℕ) (store : Change ShownStore) (Files : List RunPlan → Type 0) (more : List RunPlan → Result Y Outcome → Type 0)
+    → AcceptsCampaign campaign store Files → (end : Outcome)
+    → ((plans : Result (List RunPlan) Outcome) × FileComes role.Campaign campaign_file campaign store plans × Then more plans (Err end))
+    → ((plans : List RunPlan) → Files plans → more plans (Err end) → IsDoneOrMemory end) → IsDoneOrMemory end
+of_campaign campaign store Files more accepts end come done =
+    of_chain IsDoneOrMemory end come (file_done role.Campaign campaign_file campaign store accepts.finds accepts.accepts)
+    (λ plans read rest. done plans (accepts.files plans read) rest)
 
--- the grid over its trace isn't too large
+pub runs_done : (campaign : List ℕ) (store : Change ShownStore)
+    → AcceptsCampaign campaign store (λ plans. FindsRuns store plans × AcceptsRuns store.before 1 0 plans)
+    → (end : Outcome) → RunsCome campaign store (Err end) → IsDoneOrMemory end
+runs_done campaign store accepts end come = of_campaign campaign store _ (λ plans made. InputsCome store 1 0 plans made) accepts end come
+    (λ plans files rest. inputs_done store 1 0 plans files.0 files.1 end rest)
+
+pub named_done : (campaign name : List ℕ) (store : Change ShownStore)
+    → AcceptsCampaign campaign store (λ plans. AcceptsNamed store (run_named name 1 plans))
+    → (end : Outcome) → NamedComes campaign name store (Err end) → IsDoneOrMemory end
+named_done campaign name store accepts end come = of_campaign campaign store _ (λ plans made. FoundComes (run_named name 1 plans) store made) accepts end come
+    (λ plans files rest. found_done (run_named name 1 plans) store files end rest)
+
+pub undriven_done : (campaign name : List ℕ) (store : Change ShownStore)
+    → AcceptsCampaign campaign store (λ plans. AcceptsUndriven store (run_named name 1 plans))
+    → (end : Outcome) → UndrivenComes campaign name store (Err end) → IsDoneOrMemory end
+undriven_done campaign name store accepts end come = of_campaign campaign store _ (λ plans made. FoundUndriven (run_named name 1 plans) store made) accepts end come
+    (λ plans files rest. undriven_found_done (run_named name 1 plans) store files end rest)
+
+-- the grid over the trace of the run of that name isn't too large
 named_grid : (campaign name : List ℕ) (step : ℕ) (store : Change ShownStore) (input : RunInput)
     → NamedComes campaign name store (Ok input)
     → ((plans : List RunPlan) → ReadComes campaign_file campaign store.before (Ok plans) → AcceptsGrid step store.before (run_named name 1 plans))
@@ -90,16 +101,14 @@ named_grid campaign name step store input come grids =
     let tells = named_tells campaign name store input come in
     subst (AcceptsGrid step store.before) tells.is_named (grids tells.plans tells.campaign_says) input.drive tells.files_say.driven
 
-grid_work : (large : Bool) (nothing work : Type 0) (o : Outcome) → large ≡ false → GridEnds large nothing work o → work
-grid_work true nothing work o small ends = absurd cc
-grid_work false nothing work o small ends = ends
+grid_done : (large : Bool) (store : Change ShownStore) (input : RunInput) (end : Outcome) → large ≡ false → GridComes large store input (Err end) → ⊥
+grid_done true store input end small come = absurd cc
+grid_done false store input end small come = no_value input end come
 
-pub sweep_done : (cal : CalibrationParts) (campaign name : List ℕ) (step : ℕ) (call : Call) (o : Outcome)
-    → NamedEnds campaign name (SweepEnds cal step) call o → Finds campaign call.store → Accepts campaign_file campaign call.store.before
-    → ((plans : List RunPlan) → ReadComes campaign_file campaign call.store.before (Ok plans)
-    → AcceptsNamed call.store (run_named name 1 plans) × AcceptsGrid step call.store.before (run_named name 1 plans))
-    → WritesWell call.out → IsDoneOrMemory o
-sweep_done cal campaign name step call o ends finds accepts files still =
-    named_done campaign name (SweepEnds cal step) call o ends finds accepts (λ plans read. (files plans read).0)
-    (λ input come told. line_done _ call.out o (grid_work (is_too_large (length input.drive) step) _ _ o
-    (named_grid campaign name step call.store input come (λ plans read. (files plans read).1)) told.1).plays.written still)
+pub swept_done : (campaign name : List ℕ) (step : ℕ) (store : Change ShownStore)
+    → AcceptsCampaign campaign store (λ plans. AcceptsNamed store (run_named name 1 plans) × AcceptsGrid step store.before (run_named name 1 plans))
+    → (end : Outcome) → SweptComes campaign name step store (Err end) → IsDoneOrMemory end
+swept_done campaign name step store accepts end come = of_chain IsDoneOrMemory end come
+    (named_done campaign name store (record { finds = accepts.finds; accepts = accepts.accepts; files = λ plans read. (accepts.files plans read).0 }))
+    (λ input read grid. absurd (grid_done (is_too_large (length input.drive) step) store input end
+    (named_grid campaign name step store input read (λ plans says. (accepts.files plans says).1)) grid))

@@ -1,6 +1,6 @@
 -- Where a command that plays runs ends Done, its runs are those that the files say, or that were drawn, their
 -- text was written, and each of them keeps the headline.
-use Rattle.std.specs.Prelude.{◌≡◌, ℕ, ◌+◌, List, [], ◌∷◌, map, All, Option, Some, None, Ok}
+use Rattle.std.specs.Prelude.{◌≡◌, ℕ, ◌+◌, List, [], ◌∷◌, map, reverse, All, Option, Some, None, Ok}
 use Rattle.eg_base.specs.Outside.{ShownStore, ShownSink, Appends}
 use Rattle.eg_answer.specs.Times.{reaction_of}
 use Rattle.eg_values.specs.Calibration.{CalibrationParts}
@@ -23,7 +23,13 @@ use Rattle.eg_play.specs.InWords.{TellsInWords}
 use Rattle.eg_play.specs.Ends.{TellsWithinLimits, run_named}
 use Rattle.eg_soak.specs.Soak.{drawn_runs, soak_of}
 use Rattle.eg_soak.specs.Texts.{soak_text}
-use Rattle.eg_app.specs.Words.{Command, run, record_run, sweep, soak}
+use Rattle.eg_readings.specs.declared.answered.PartnerAnswer.{PartnerAnswer}
+use Rattle.eg_stream.specs.Coupled.{unit_of}
+use Rattle.eg_stream.specs.Couplings.{couple_work}
+use Rattle.eg_stream.specs.Headline.{KeepsCoupledHeadline}
+use Rattle.eg_stream.specs.Streams.{LeadTo}
+use Rattle.eg_stream.specs.Texts.{coupled_text}
+use Rattle.eg_app.specs.Words.{Command, by, soak, run, record_run, sweep, couple}
 
 -- this is the calibration that the command uses: that of the file behind `--cal`, or the reference
 abbrev pub Uses : Option (List ℕ) → ShownStore → CalibrationParts → Type 0
@@ -96,13 +102,39 @@ pub record TellsSoak (seed count : ℕ) (out : Change ShownSink) : Type 0 where
   pub written : Appends out.before out.after (soak_text (soak_of (drawn_runs count seed)))
   pub headline : All KeepsHeadline (drawn_runs count seed)
 
+-- The files say that this is the input of one run of a campaign, the first of this name, but for its drive.
+pub record IsUndrivenInput (campaign name : List ℕ) (store : ShownStore) (input : RunInput) : Type 0 where
+  pub plans : List RunPlan
+  pub n : ℕ
+  pub plan : RunPlan
+  pub campaign_says : ReadComes campaign_file campaign store (Ok plans)
+  pub is_named : run_named name 1 plans ≡ Some (n, plan)
+  pub planned : input.plan ≡ plan
+  pub loaded : ReadComes (image_file n) plan.image store (Ok input.image)
+
+-- Of the run of that name, around a partner's engine: these lines were taken, all that is said of them was
+-- written, and the rows of their ticks keep the headline. (That they are all lines that came says `Ends`.)
+pub record TellsCoupled (calibration : Option (List ℕ)) (campaign name : List ℕ) (store : ShownStore)
+    (out : Change ShownSink) : Type 0 where
+  pub cal : CalibrationParts
+  pub input : RunInput
+  pub lines : List (List ℕ)
+  pub answers : List PartnerAnswer
+  pub uses : Uses calibration store cal
+  pub files_say : IsUndrivenInput campaign name store input
+  pub are_taken : LeadTo (couple_work (unit_of cal input)) (reverse lines) answers
+  pub written : Appends out.before out.after (coupled_text (unit_of cal input) answers)
+  pub headline : KeepsCoupledHeadline (unit_of cal input) answers
+
 -- What a command that plays runs has told where its outcome is Done; of any other command nothing is said.
 abbrev pub TellsHeadline : Option Command → ShownStore → Change ShownSink → Type 0
-TellsHeadline (Some (run telling calibration campaign)) store out =
+TellsHeadline (Some (by calibration (run telling campaign))) store out =
     TellsRuns telling calibration campaign store out
-TellsHeadline (Some (record_run calibration campaign name)) store out =
+TellsHeadline (Some (by calibration (record_run campaign name))) store out =
     TellsRecord calibration campaign name store out
-TellsHeadline (Some (sweep calibration campaign name step)) store out =
+TellsHeadline (Some (by calibration (sweep campaign name step))) store out =
     TellsSweep calibration campaign name step store out
+TellsHeadline (Some (by calibration (couple campaign name))) store out =
+    TellsCoupled calibration campaign name store out
 TellsHeadline (Some (soak seed runs)) store out = TellsSoak seed runs out
 TellsHeadline _ store out = Unit {0}

@@ -1,5 +1,6 @@
 -- Outside the headline. The one line that notes how a call ended. A call that did its work gets none.
-use Rattle.std.specs.Prelude.{◌≡◌, ℕ, List, [], ◌++◌, codes, decimal, Option, Some, None, unwrap_or, IsTrue}
+use Rattle.std.specs.Prelude.{◌≡◌, ◌⊎◌, ℕ, List, [], ◌++◌, codes, decimal, Option, Some, None, unwrap_or, IsTrue}
+use Rattle.std.specs.Option.{MatchOption}
 use Rattle.eg_base.specs.Outside.{ShownStore, ShownSink, Rose, Appends, AppendsPrefix}
 use Rattle.eg_input.specs.declared.fault.TraceFault.{TraceFault}
 use Rattle.eg_input.specs.declared.fault.TraceFault.TheVariants as trace_fault
@@ -23,34 +24,32 @@ use Rattle.eg_outcome.specs.declared.outcome.Refusal.TheVariants as refusal
 use Rattle.eg_outcome.specs.declared.outcome.Role.{Role}
 use Rattle.eg_outcome.specs.declared.outcome.Role.TheVariants as role
 use Rattle.eg_outcome.specs.Roles.{role_in}
-use Rattle.eg_play.specs.Ends.{IsNameIn, NamesFile}
+use Rattle.eg_play.specs.Ends.{NamesFile}
 use Rattle.eg_app.specs.declared.says.Says.{Says}
 use Rattle.eg_app.specs.declared.says.Says.TheVariants as says
 use Rattle.eg_app.specs.Shown.{shown_name}
-use Rattle.eg_app.specs.Words.{Command, check, bound, limits, run, record_run, sweep, soak, answers, asm, dis}
+use Rattle.eg_app.specs.Words.{Command, by, answers, asm, dis, Work, check, campaign_in}
 
 -- ---- the file that an outcome speaks of ----
 
 -- the name behind `--cal`, or that of the file of `answers`; empty where there is none
 abbrev pub calibration_name : Command → List ℕ
-calibration_name (check calibration file) = unwrap_or calibration []
-calibration_name (bound calibration) = unwrap_or calibration []
-calibration_name (limits calibration) = unwrap_or calibration []
-calibration_name (run telling calibration campaign) = unwrap_or calibration []
-calibration_name (record_run calibration campaign name) = unwrap_or calibration []
-calibration_name (sweep calibration campaign name step) = unwrap_or calibration []
-calibration_name (soak seed runs) = []
+calibration_name (by calibration work) = unwrap_or calibration []
 calibration_name (answers file) = file
-calibration_name (asm file) = []
-calibration_name (dis file) = []
+calibration_name _ = []
 
--- the name of the command's own file: the check file, the campaign, or the source or image that it
--- translates; empty where there is none
+-- the name of the check file, or what notes call standard input
+abbrev pub checked_by : Work → List ℕ
+checked_by (check file) = file
+checked_by _ = codes "standard input"
+
+abbrev pub checked_name : Command → List ℕ
+checked_name (by calibration work) = checked_by work
+checked_name _ = codes "standard input"
+
+-- the name of the campaign, or of the source or image that is translated; empty where there is none
 abbrev pub own_name : Command → List ℕ
-own_name (check calibration file) = file
-own_name (run telling calibration campaign) = campaign
-own_name (record_run calibration campaign name) = campaign
-own_name (sweep calibration campaign name step) = campaign
+own_name (by calibration work) = unwrap_or (campaign_in work) []
 own_name (asm file) = file
 own_name (dis file) = file
 own_name _ = []
@@ -59,37 +58,25 @@ own_name _ = []
 -- and images of runs aren't named in the words.)
 abbrev pub name_in_words : Command → Option Role → List ℕ
 name_in_words command (Some role.Calibration) = calibration_name command
+name_in_words command (Some role.Check) = checked_name command
 name_in_words command (Some _) = own_name command
 name_in_words command None = []
 
--- The name of the file of this role: the name in the words. The trace and the image of a run have the name
--- that the campaign gives, which the store has.
-abbrev pub IsNameOf : Command → ShownStore → Option Role → List ℕ → Type 0
-IsNameOf (run telling calibration campaign) store (Some (role.Trace n)) name =
-    IsNameIn campaign store (role.Trace n) (Some name)
-IsNameOf (run telling calibration campaign) store (Some (role.Image n)) name =
-    IsNameIn campaign store (role.Image n) (Some name)
-IsNameOf (record_run calibration campaign played) store (Some (role.Trace n)) name =
-    IsNameIn campaign store (role.Trace n) (Some name)
-IsNameOf (record_run calibration campaign played) store (Some (role.Image n)) name =
-    IsNameIn campaign store (role.Image n) (Some name)
-IsNameOf (sweep calibration campaign played step) store (Some (role.Trace n)) name =
-    IsNameIn campaign store (role.Trace n) (Some name)
-IsNameOf (sweep calibration campaign played step) store (Some (role.Image n)) name =
-    IsNameIn campaign store (role.Image n) (Some name)
-IsNameOf command store file name = name ≡ name_in_words command file
-
--- the name of the file that an outcome speaks of, empty where it speaks of none
-abbrev pub IsFileName : Option Command → ShownStore → Outcome → List ℕ → Type 0
-IsFileName (Some command) store o name = IsNameOf command store (role_in o) name
-IsFileName None store o name = name ≡ []
-
 -- what comes with the outcome of a command: the name of the trace or the image of a run that it speaks of
+abbrev pub NamesBy : Work → ShownStore → Outcome → Option (List ℕ) → Type 0
+NamesBy work store o name =
+    MatchOption (campaign_in work) (name ≡ None) (λ campaign. NamesFile campaign store (role_in o) name)
+
 abbrev pub Names : Command → ShownStore → Outcome → Option (List ℕ) → Type 0
-Names (run telling calibration campaign) store o name = NamesFile campaign store (role_in o) name
-Names (record_run calibration campaign played) store o name = NamesFile campaign store (role_in o) name
-Names (sweep calibration campaign played step) store o name = NamesFile campaign store (role_in o) name
+Names (by calibration work) store o name = NamesBy work store o name
 Names command store o name = name ≡ None
+
+-- The name of the file that an outcome speaks of, empty where it speaks of none: the name that comes with the
+-- outcome, which the campaign gives, or else the name in the words.
+abbrev pub IsFileName : Option Command → ShownStore → Outcome → List ℕ → Type 0
+IsFileName (Some command) store o name = Names command store o (Some name)
+    ⊎ (Names command store o None × (name ≡ name_in_words command (role_in o)))
+IsFileName None store o name = name ≡ []
 
 -- ---- the line ----
 

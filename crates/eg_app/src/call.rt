@@ -1,29 +1,29 @@
 // The top call.
-ghost use Rattle.std.specs.Prelude.{◌≡◌, None, Some};
-ghost use Rattle.eg_app.specs.Words.{word_bytes, command_of, said, KeepsLimits};
-ghost use Rattle.eg_app.specs.Ends.{Ends, ReadsNothing, CountsNothing, TellsMissing, Completes};
+ghost use Rattle.std.specs.Prelude.{◌≡◌, false, Some};
+ghost use Rattle.eg_app.specs.Words.{word_bytes, asks_lines, command_of, said, KeepsLimits};
+ghost use Rattle.eg_app.specs.Ends.{Ends, HasPutNothing, Completes, call};
+ghost use Rattle.eg_app.specs.Missing.{ReadsNothing, TellsMissing};
 ghost use Rattle.eg_app.specs.Headline.{TellsHeadline};
 ghost use Rattle.eg_app.specs.Notes.{NotesOutcome, Names, IsFileName};
+ghost use Rattle.eg_app.specs.Unlined.{EndsWithoutLines, no_lines};
 ghost use Rattle.eg_base.specs.Outside.{ShownStore};
 ghost use Rattle.eg_outcome.specs.Changes.{change, change_of};
-ghost use Rattle.eg_outcome.specs.Outcomes.{EndsOrderly, TellsNoMemory, PutsNothing};
+ghost use Rattle.eg_outcome.specs.Outcomes.{TellsNoMemory};
 ghost use Rattle.eg_outcome.specs.declared.outcome.Outcome.TheVariants.{Done};
-ghost use Rattle.eg_play.specs.Ends.{call};
 
 use crate::command::Command;
+use crate::gather::gather;
 use crate::note::put_note;
-use crate::soak::play_drawn;
+use crate::perform::perform;
 use eg_base::{Sink, Store};
-use eg_desk::{answers, asm, bound, check, dis, limits};
+use eg_lines::{Lines, SureLines};
 use eg_outcome::Outcome;
-use eg_play::{End, NamedRun, record, run, sweep};
+use eg_play::End;
 use eg_tick::Ticks;
 use std::alloc::Global;
 
-/// Does what the words ask for (docs/FORMATS.md, "Commands"): it reads files from `store`, writes its text to
-/// `out`, counts in `steps` the ticks that it makes, and notes any outcome but Done with one line in `notes`.
-/// The words don't hold the program's name. What `notes` refuses changes no outcome (shown by tests: no
-/// clause on the outcome speaks of it).
+/// Does what the words ask for (docs/FORMATS.md, "Commands"), where no lines come: for a command that reads
+/// lines there are none. Otherwise as `egasim_on_lines`.
 pub fn egasim<S: Store, K: Sink, N: Sink>(
     alloc: Global,
     words: &[String],
@@ -32,26 +32,66 @@ pub fn egasim<S: Store, K: Sink, N: Sink>(
     notes: &mut N,
     steps: &mut Ticks,
 ) -> Outcome
-    // The headline (docs/READING.md, "The headline, field by field"): on Done the report, the record or the
-    // table that was written is that of the runs that the files say, whatever they hold, and each of these
-    // runs keeps the headline; so does each run that is drawn.
+    ensures headline { result ≡ Done → TellsHeadline (command_of (word_bytes words.now)) (S.shows store.old)
+        (change_of K.shows out.old out.new) }
+    ensures ends { EndsWithoutLines (command_of (word_bytes words.now))
+        ((out.new ≡ out.old) × (steps.new ≡ steps.old)) (change_of S.shows store.old store.new)
+        (change_of K.shows out.old out.new) (change steps.old steps.new) result }
+    ensures missing { TellsMissing (command_of (word_bytes words.now)) (S.shows store.old)
+        (λ end. result ≡ end) }
+    ensures completes { Completes (command_of (word_bytes words.now)) (change_of S.shows store.old store.new)
+        no_lines (change_of K.shows out.old out.new) result }
+    ensures no_memory { TellsNoMemory result }
+    ensures nothing_read { ReadsNothing (command_of (word_bytes words.now)) → store.new ≡ store.old }
+    ensures files { (S.shows store.new).files ≡ (S.shows store.old).files }
+    ensures nothing_put { HasPutNothing (command_of (word_bytes words.now)) result → out.new ≡ out.old }
+    ensures nothing_played { HasPutNothing (command_of (word_bytes words.now)) result → steps.new ≡ steps.old }
+    ensures note { NotesOutcome (command_of (word_bytes words.now)) (S.shows store.old)
+        (change_of N.shows notes.old notes.new) result }
+    ensures no_note { result ≡ Done → notes.new ≡ notes.old }
+{
+    let mut lines = SureLines::new(Vec::new(alloc));
+    egasim_on_lines(alloc, words, store, &mut lines, out, notes, steps)
+}
+
+/// Does what the words ask for (docs/FORMATS.md, "Commands"): it reads files from `store`, and then `lines` to
+/// their end, where the command takes lines; writes its text to `out`, counts in `steps` the ticks that it
+/// makes, and notes any outcome but Done with one line in `notes`. The words don't hold the program's name.
+/// What was written before a line was refused stays. What `notes` refuses changes no outcome (shown by tests:
+/// no clause on the outcome speaks of it).
+pub fn egasim_on_lines<S: Store, L: Lines, K: Sink, N: Sink>(
+    alloc: Global,
+    words: &[String],
+    store: &mut S,
+    lines: &mut L,
+    out: &mut K,
+    notes: &mut N,
+    steps: &mut Ticks,
+) -> Outcome
+    // The headline (docs/READING.md, "The headline, field by field"): on Done the report, the record, the table
+    // or the rows that were written are those of the runs that the files say, whatever they hold, and each of
+    // these runs keeps the headline; so does each run that is drawn.
     ensures headline { result ≡ Done → TellsHeadline (command_of (word_bytes words.now)) (S.shows store.old)
         (change_of K.shows out.old out.new) }
 
-    // How it ends, what was written then and which ticks were made, and when each outcome comes.
-    ensures ends { Ends (command_of (word_bytes words.now)) (call (change_of S.shows store.old store.new)
+    // How it ends, what was written then, which lines were read and which ticks were made, and when each
+    // outcome comes.
+    ensures ends { Ends (command_of (word_bytes words.now))
+        ((lines.new ≡ lines.old) × (out.new ≡ out.old) × (steps.new ≡ steps.old))
+        (call (change_of S.shows store.old store.new) (change_of L.shows lines.old lines.new)
         (change_of K.shows out.old out.new) (change steps.old steps.new)) result }
-    ensures missing { TellsMissing (command_of (word_bytes words.now)) (S.shows store.old) result }
+    ensures missing { TellsMissing (command_of (word_bytes words.now)) (S.shows store.old)
+        (λ end. result ≡ end) }
     ensures completes { Completes (command_of (word_bytes words.now)) (change_of S.shows store.old store.new)
-        (change_of K.shows out.old out.new) result }
+        (L.shows lines.old) (change_of K.shows out.old out.new) result }
     ensures no_memory { TellsNoMemory result }
 
     // What stays as it was.
     ensures nothing_read { ReadsNothing (command_of (word_bytes words.now)) → store.new ≡ store.old }
     ensures files { (S.shows store.new).files ≡ (S.shows store.old).files }
-    ensures nothing_put { PutsNothing result → out.new ≡ out.old }
-    ensures nothing_played { PutsNothing result → steps.new ≡ steps.old }
-    ensures counts_nothing { CountsNothing (command_of (word_bytes words.now)) → steps.new ≡ steps.old }
+    ensures no_line { asks_lines (command_of (word_bytes words.now)) ≡ false → lines.new ≡ lines.old }
+    ensures nothing_put { HasPutNothing (command_of (word_bytes words.now)) result → out.new ≡ out.old }
+    ensures nothing_played { HasPutNothing (command_of (word_bytes words.now)) result → steps.new ≡ steps.old }
 
     // The note of the outcome is put, and none after Done.
     ensures note { NotesOutcome (command_of (word_bytes words.now)) (S.shows store.old)
@@ -62,9 +102,8 @@ pub fn egasim<S: Store, K: Sink, N: Sink>(
         put_note(alloc, &Outcome::Usage, "", notes);
         return Outcome::Usage;
     };
-    let end = work(alloc, command, store, out, steps);
-    let file = file_of(command, &end);
-    put_note(alloc, &end.outcome, file, notes);
+    let end = work(alloc, command, store, lines, out, steps);
+    put_note(alloc, &end.outcome, file_of(command, &end), notes);
     end.outcome
 }
 
@@ -79,55 +118,32 @@ fn file_of<'a>(command: Command<'a>, end: &'a End) -> &'a str
     }
 }
 
-/// Does what a command asks for, but for its note.
-fn work<S: Store, K: Sink>(
+/// Does what a command asks for, but for its note: all that it needs is gathered, and then it is performed.
+fn work<S: Store, L: Lines, K: Sink>(
     alloc: Global,
     command: Command<'_>,
     store: &mut S,
+    lines: &mut L,
     out: &mut K,
     steps: &mut Ticks,
 ) -> End
     requires limits { KeepsLimits (said command) }
-    ensures ends { Ends (Some (said command.entry)) (call (change_of S.shows store.old store.new)
+    ensures ends { Ends (Some (said command.entry))
+        ((lines.new ≡ lines.old) × (out.new ≡ out.old) × (steps.new ≡ steps.old))
+        (call (change_of S.shows store.old store.new) (change_of L.shows lines.old lines.new)
         (change_of K.shows out.old out.new) (change steps.old steps.new)) result.outcome }
     ensures names { Names (said command.entry) (S.shows store.old) result.outcome result.file }
-    ensures missing { TellsMissing (Some (said command.entry)) (S.shows store.old) result.outcome }
+    ensures missing { TellsMissing (Some (said command.entry)) (S.shows store.old)
+        (λ end. result.outcome ≡ end) }
+    ensures no_memory { TellsNoMemory result.outcome }
     ensures nothing_read { ReadsNothing (Some (said command.entry)) → store.new ≡ store.old }
-    ensures orderly { EndsOrderly (change_of S.shows store.old store.new) (change out.old out.new)
-        (change steps.old steps.new) result.outcome }
-    ensures counts_nothing { CountsNothing (Some (said command.entry)) → steps.new ≡ steps.old }
+    ensures files { (S.shows store.new).files ≡ (S.shows store.old).files }
+    ensures no_line { asks_lines (Some (said command.entry)) ≡ false → lines.new ≡ lines.old }
+    ensures nothing_put { HasPutNothing (Some (said command.entry)) result.outcome → out.new ≡ out.old }
+    ensures nothing_played { HasPutNothing (Some (said command.entry)) result.outcome → steps.new ≡ steps.old }
 {
-    match command {
-        Command::Check { calibration, file } => {
-            End::of(check(alloc, calibration, file, store, out))
-        }
-        Command::Bound { calibration } => End::of(bound(alloc, calibration, store, out)),
-        Command::Limits { calibration } => End::of(limits(alloc, calibration, store, out)),
-        Command::Run {
-            telling,
-            calibration,
-            campaign,
-        } => run(alloc, telling, calibration, campaign, store, out, steps),
-        Command::Record {
-            calibration,
-            campaign,
-            name,
-        } => {
-            let run = NamedRun { campaign, name };
-            record(alloc, calibration, run, store, out, steps)
-        }
-        Command::Sweep {
-            calibration,
-            campaign,
-            name,
-            step,
-        } => {
-            let run = NamedRun { campaign, name };
-            sweep(alloc, calibration, run, step, store, out, steps)
-        }
-        Command::Answers { file } => End::of(answers(alloc, file, store, out)),
-        Command::Asm { file } => End::of(asm(alloc, file, store, out)),
-        Command::Dis { file } => End::of(dis(alloc, file, store, out)),
-        Command::Soak { seed, runs } => End::of(play_drawn(alloc, seed, runs, out, steps)),
+    match gather(alloc, command, store) {
+        Ok(job) => End::of(perform(alloc, job, lines, out, steps)),
+        Err(end) => end,
     }
 }

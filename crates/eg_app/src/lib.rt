@@ -1,15 +1,19 @@
-//! The program's top call: words in, bytes out.
+//! The program's top call: words in, bytes out. All files that a command needs are read and accepted first;
+//! what is to be done then is a job, which reads no file.
 #![tactic(auto)]
 
 mod call;
 mod command;
+mod forms;
+mod gather;
+mod job;
 mod note;
 mod number;
+mod perform;
 mod says;
 mod shown;
 mod soak;
+mod work;
 
-pub use call::egasim;
-pub use command::{is_alone, is_on_run, names_calibration};
+pub use call::{egasim, egasim_on_lines};
 pub use eg_outcome::{Outcome, Refusal, Role};
-pub use note::put_note;

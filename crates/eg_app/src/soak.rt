@@ -1,8 +1,7 @@
 // `soak SEED RUNS`: the summary of runs that are drawn from a number.
 ghost use Rattle.std.specs.Prelude.{◌≤◌};
 ghost use Rattle.eg_outcome.specs.Changes.{change, change_of};
-ghost use Rattle.eg_outcome.specs.Outcomes.{PutsNothing};
-ghost use Rattle.eg_app.specs.Ends.{SoakEnds};
+ghost use Rattle.eg_app.specs.Performed.{SoakEnds};
 
 use eg_base::Sink;
 use eg_outcome::{Outcome, put_lines};
@@ -11,8 +10,8 @@ use eg_tick::Ticks;
 use eg_values::reference;
 use std::alloc::Global;
 
-/// Does `soak SEED RUNS`, but for its note: plays `runs` runs (1 to 500) that are drawn from the seed, and
-/// writes the summary of them (docs/FORMATS.md, "The summary of `soak`"). Ticks are counted in `steps`.
+/// Plays `runs` runs (1 to 500) that are drawn from the seed, and writes the summary of them (docs/FORMATS.md,
+/// "The summary of `soak`"). Ticks are counted in `steps`.
 #[inline(never)]
 pub(crate) fn play_drawn<K: Sink>(
     alloc: Global,
@@ -23,9 +22,7 @@ pub(crate) fn play_drawn<K: Sink>(
 ) -> Outcome
     requires least { 1 ≤ runs }
     requires most { runs ≤ 500 }
-    ensures ends { SoakEnds seed runs (change_of K.shows out.old out.new)
-        (change steps.old steps.new) result }
-    ensures put { PutsNothing result → ⊥ }
+    ensures { SoakEnds seed runs (change_of K.shows out.old out.new) (change steps.old steps.new) result }
 {
     // Called for its clause alone: the reference calibration is an accepted one.
     let _calibration = reference();

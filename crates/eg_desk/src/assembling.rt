@@ -3,38 +3,23 @@ ghost use Rattle.std.specs.Prelude.{◌≡◌, ◌↔◌, ◌≤◌, length, Err
 ghost use Rattle.eg_base.specs.Outside.{IsMissing};
 ghost use Rattle.eg_asm.specs.Listings.{image_text};
 ghost use Rattle.eg_outcome.specs.Changes.{change_of};
-ghost use Rattle.eg_outcome.specs.Outcomes.{LineEnds, TellsNoMemory, PutsNothing};
-ghost use Rattle.eg_outcome.specs.Reads.{KeepsFiles, TellsMissingFile};
+ghost use Rattle.eg_outcome.specs.Outcomes.{LineEnds, TellsNoMemory};
+ghost use Rattle.eg_outcome.specs.Reads.{KeepsFiles};
 ghost use Rattle.eg_outcome.specs.declared.outcome.Outcome.TheVariants.{ReadFault};
 ghost use Rattle.eg_outcome.specs.declared.outcome.Role.TheVariants as role;
-ghost use Rattle.eg_desk.specs.Ends.{AsmEnds, SourceComes, SourceFileComes, source_end};
+ghost use Rattle.eg_desk.specs.Ends.{SourceComes, SourceFileComes, source_end};
 
 use eg_asm::{AsmFault, assemble, image_text};
 use eg_base::{Items, Sink, Store};
 use eg_outcome::{Outcome, Refusal, Role, file_bytes, put_text};
 use std::alloc::Global;
 
-/// Does the work of `asm FILE` (docs/FORMATS.md, "Commands"): reads a source, and writes its image, a line
-/// for each word. The note of a refusal is left to the caller.
-#[inline(never)]
-pub fn asm<S: Store, K: Sink>(alloc: Global, file: &str, store: &mut S, out: &mut K) -> Outcome
-    ensures ends { AsmEnds file.now (change_of S.shows store.old store.new)
-        (change_of K.shows out.old out.new) result }
-    // Over a sure store a fault of reading is told exactly if there is no such file.
-    ensures missing { IsTrue (S.shows store.old).sure
-        → TellsMissingFile role.Source file.now (S.shows store.old) result }
-    ensures no_memory { TellsNoMemory result }
-    ensures files { (S.shows store.new).files ≡ (S.shows store.old).files }
-    ensures nothing_put { PutsNothing result → out.new ≡ out.old }
-{
-    match source_words(alloc, file, store) {
-        Ok(words) => put_image(alloc, words.as_slice(), out),
-        Err(outcome) => outcome,
-    }
-}
-
-/// The words of the source of that name, or how the call ends without them.
-fn source_words<S: Store>(alloc: Global, file: &str, store: &mut S) -> Result<Items<u16>, Outcome>
+/// The words of the source of that name, or how the call ends without them (docs/FORMATS.md, "Commands").
+pub fn source_words<S: Store>(
+    alloc: Global,
+    file: &str,
+    store: &mut S,
+) -> Result<Items<u16>, Outcome>
     ensures comes { SourceFileComes file.now (change_of S.shows store.old store.new) result }
     ensures missing { IsTrue (S.shows store.old).sure →
         ((result ≡ Err (ReadFault role.Source)) ↔ IsMissing (S.shows store.old).files file.now) }
@@ -69,10 +54,9 @@ fn end_of(fault: AsmFault) -> Outcome
     }
 }
 
-/// Puts the image of these words.
-fn put_image<K: Sink>(alloc: Global, words: &[u16], out: &mut K) -> Outcome
-    ensures ends { LineEnds (image_text words.now) (change_of K.shows out.old out.new) result }
-    ensures put { PutsNothing result → ⊥ }
+/// Puts the image of these words, a line for each.
+pub fn put_image<K: Sink>(alloc: Global, words: &[u16], out: &mut K) -> Outcome
+    ensures { LineEnds (image_text words.now) (change_of K.shows out.old out.new) result }
 {
     let Ok(text) = image_text(alloc, words) else {
         return Outcome::Memory;

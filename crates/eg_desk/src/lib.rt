@@ -2,7 +2,8 @@
 //!
 //! `check` finds the first confirmed excess in a file's rows; `bound` and `limits` tell what a calibration
 //! comes to, and `answers` the right answers to its questions; `asm` and `dis` lead from a source to its
-//! image and back. What a source is, and how words are written, stands in `eg_asm`.
+//! image and back: what each of them reads, and what it writes of that. What a source is, and how words are
+//! written, stands in `eg_asm`.
 #![tactic(auto)]
 
 mod answering;
@@ -14,9 +15,9 @@ mod limit;
 mod monitoring;
 mod telling;
 
-pub use answering::answers;
-pub use assembling::asm;
-pub use checking::check;
-pub use disassembling::dis;
+pub use answering::{put_answers, questions_of};
+pub use assembling::{put_image, source_words};
+pub use checking::{check_rows, put_check};
+pub use disassembling::{image_of, put_source};
 pub use limit::{Limits, limits_of};
-pub use telling::{bound, limits};
+pub use telling::{put_bound, put_limits};

@@ -1,91 +1,34 @@
 // `bound [--cal NAME]` and `limits [--cal NAME]`: what a calibration comes to.
-ghost use Rattle.std.specs.Prelude.{◌≡◌, ◌++◌, ℕ, List, None, IfOk, IsOk, IsTrue, OnOk, codes, string_bytes};
-ghost use Rattle.std.specs.Option.{option_copied};
-ghost use Rattle.eg_outcome.specs.Calibrations.{TellsMissingCalibration};
+ghost use Rattle.std.specs.Prelude.{◌≡◌, ◌++◌, ℕ, List, IfOk, OnOk, codes, string_bytes};
 ghost use Rattle.eg_outcome.specs.Changes.{change_of};
-ghost use Rattle.eg_outcome.specs.Outcomes.{LineEnds, WorkFollows, TellsNoMemory, PutsNothing};
-ghost use Rattle.eg_desk.specs.Ends.{BoundEnds, LimitsEnd, TellsLimits};
+ghost use Rattle.eg_outcome.specs.Outcomes.{LineEnds};
+ghost use Rattle.eg_desk.specs.Ends.{TellsLimits};
 ghost use Rattle.eg_desk.specs.Texts.{bound_text, counts_text, limits_text, number_or_none};
 
 use crate::{Limits, limits_of};
-use eg_base::{NoMemory, Sink, Store};
-use eg_outcome::{Outcome, calibration_for, put_text};
+use eg_base::{NoMemory, Sink};
+use eg_outcome::{Outcome, put_text};
 use eg_values::Calibration;
 use std::alloc::{AllocError, Global};
 
-/// Does `bound [--cal NAME]`, but for its note (docs/FORMATS.md, "Commands"): writes the worst-case reaction
-/// and the bound for lapses.
-#[inline(never)]
-pub fn bound<S: Store, K: Sink>(
-    alloc: Global,
-    calibration: Option<&str>,
-    store: &mut S,
-    out: &mut K,
-) -> Outcome
-    ensures ends { BoundEnds (option_copied calibration.entry) (change_of S.shows store.old store.new)
-        (change_of K.shows out.old out.new) result }
-    ensures missing { IsTrue (S.shows store.old).sure
-        → TellsMissingCalibration (option_copied calibration.entry) (S.shows store.old) result }
-    ensures no_memory { TellsNoMemory result }
-    ensures unread { option_copied calibration.entry ≡ None → store.new ≡ store.old }
-    ensures files { (S.shows store.new).files ≡ (S.shows store.old).files }
-    ensures nothing_put { PutsNothing result → out.new ≡ out.old }
+/// Puts the worst-case reaction by this calibration, and the bound for lapses (docs/FORMATS.md, "Commands").
+pub fn put_bound<K: Sink>(alloc: Global, calibration: &Calibration, out: &mut K) -> Outcome
+    ensures { TellsLimits bound_text calibration.now (change_of K.shows out.old out.new) result }
 {
-    let come = calibration_for(alloc, calibration, store);
-    put_bound(alloc, come, out)
+    put_made(bound_text(alloc, &limits_of(calibration)), out)
 }
 
-/// Does `limits [--cal NAME]`, but for its note (docs/FORMATS.md, "Commands"): writes all that a calibration
-/// comes to.
-#[inline(never)]
-pub fn limits<S: Store, K: Sink>(
-    alloc: Global,
-    calibration: Option<&str>,
-    store: &mut S,
-    out: &mut K,
-) -> Outcome
-    ensures ends { LimitsEnd (option_copied calibration.entry) (change_of S.shows store.old store.new)
-        (change_of K.shows out.old out.new) result }
-    ensures missing { IsTrue (S.shows store.old).sure
-        → TellsMissingCalibration (option_copied calibration.entry) (S.shows store.old) result }
-    ensures no_memory { TellsNoMemory result }
-    ensures unread { option_copied calibration.entry ≡ None → store.new ≡ store.old }
-    ensures files { (S.shows store.new).files ≡ (S.shows store.old).files }
-    ensures nothing_put { PutsNothing result → out.new ≡ out.old }
+/// Puts all that this calibration comes to (docs/FORMATS.md, "The text of `limits`").
+pub fn put_limits<K: Sink>(alloc: Global, calibration: &Calibration, out: &mut K) -> Outcome
+    ensures { TellsLimits limits_text calibration.now (change_of K.shows out.old out.new) result }
 {
-    let come = calibration_for(alloc, calibration, store);
-    put_limits(alloc, come, out)
-}
-
-/// Puts the lines of `bound`, where a calibration came; without one the call ends as it does then.
-fn put_bound<K: Sink>(alloc: Global, come: Result<Calibration, Outcome>, out: &mut K) -> Outcome
-    ensures ends { WorkFollows (λ cal. TellsLimits bound_text cal (change_of K.shows out.old out.new))
-        (out.new ≡ out.old) come result }
-    ensures put { IsOk come → PutsNothing result → ⊥ }
-{
-    match come {
-        Ok(calibration) => put_made(bound_text(alloc, &limits_of(&calibration)), out),
-        Err(end) => end,
-    }
-}
-
-/// Puts the lines of `limits`, where a calibration came; without one the call ends as it does then.
-fn put_limits<K: Sink>(alloc: Global, come: Result<Calibration, Outcome>, out: &mut K) -> Outcome
-    ensures ends { WorkFollows (λ cal. TellsLimits limits_text cal (change_of K.shows out.old out.new))
-        (out.new ≡ out.old) come result }
-    ensures put { IsOk come → PutsNothing result → ⊥ }
-{
-    match come {
-        Ok(calibration) => put_made(limits_text(alloc, &limits_of(&calibration)), out),
-        Err(end) => end,
-    }
+    put_made(limits_text(alloc, &limits_of(calibration)), out)
 }
 
 /// Puts these lines, or answers Memory where memory ran out while they were made.
 fn put_made<K: Sink>(made: Result<String, NoMemory>, out: &mut K) -> Outcome
-    ensures ends { (lines : List ℕ) → IfOk made (λ text. string_bytes text ≡ lines) →
+    ensures { (lines : List ℕ) → IfOk made (λ text. string_bytes text ≡ lines) →
         LineEnds lines (change_of K.shows out.old out.new) result }
-    ensures put { PutsNothing result → ⊥ }
 {
     match made {
         Ok(text) => put_text(text.as_bytes(), out),

@@ -1,6 +1,6 @@
 -- The calibration of a command is what the file behind `--cal` says, or else the reference calibration; where
 -- that file can't be read or is refused, the call ends with that.
-use Rattle.std.specs.Prelude.{◌≡◌, ◌↔◌, ℕ, List, Option, Some, None, Result, Ok}
+use Rattle.std.specs.Prelude.{◌≡◌, ℕ, List, Option, Some, None, Result, Ok}
 use Rattle.eg_base.specs.Outside.{ShownStore, IsMissing}
 use Rattle.eg_toml.specs.Documents.{document_of}
 use Rattle.eg_values.specs.Calibration.{CalibrationParts}
@@ -9,7 +9,6 @@ use Rattle.eg_cal.specs.Calibration.{calibration_of}
 use Rattle.eg_cal.specs.declared.key.CalFault.{CalFault}
 use Rattle.eg_cal.specs.declared.key.CalFault.TheVariants as cal_fault
 use Rattle.eg_outcome.specs.Changes.{Change}
-use Rattle.eg_outcome.specs.Outcomes.{WorkFollows}
 use Rattle.eg_outcome.specs.Reads.{refused, sized, FileComes, Finds, Accepts}
 use Rattle.eg_outcome.specs.declared.outcome.Outcome.{Outcome}
 use Rattle.eg_outcome.specs.declared.outcome.Outcome.TheVariants as outcome
@@ -41,23 +40,12 @@ abbrev pub CalibrationComes :
 CalibrationComes (Some name) store come = FileComes role.Calibration calibration_file name store come
 CalibrationComes None store come = come ≡ Ok reference_parts
 
--- something comes of the calibration, and the work follows
-abbrev pub CalibratedEnds : Option (List ℕ) → Change ShownStore → (nothing : Type 0)
-    → (CalibrationParts → Outcome → Type 0) → Outcome → Type 0
-CalibratedEnds calibration store nothing work o = (come : Result CalibrationParts Outcome)
-    × CalibrationComes calibration store come × WorkFollows work nothing come o
-
 -- ---- when it is there, and when it is accepted ----
 
 -- the file behind `--cal` isn't there
 abbrev pub MissesCalibration : Option (List ℕ) → ShownStore → Type 0
 MissesCalibration (Some name) store = IsMissing store.files name
 MissesCalibration None store = ⊥
-
--- reading the calibration is told to fail exactly if there is no such file
-abbrev pub TellsMissingCalibration : Option (List ℕ) → ShownStore → Outcome → Type 0
-TellsMissingCalibration calibration store o =
-    (o ≡ outcome.ReadFault role.Calibration) ↔ MissesCalibration calibration store
 
 -- the file behind `--cal` is found
 abbrev pub FindsCalibration : Option (List ℕ) → Change ShownStore → Type 0

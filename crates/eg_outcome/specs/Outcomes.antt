@@ -2,8 +2,8 @@
 -- of writing or as memory ran out. What each outcome tells is said here, and that the work follows where
 -- something comes.
 use Rattle.std.specs.Prelude.{◌≡◌, ◌≢◌, ℕ, List, IsTrue, Result, Ok, Err}
-use Rattle.eg_base.specs.Outside.{ShownStore, ShownSink, Rose, Appends, AppendsPrefix}
-use Rattle.eg_outcome.specs.Changes.{Change, Stays}
+use Rattle.eg_base.specs.Outside.{ShownSink, Rose, Appends, AppendsPrefix}
+use Rattle.eg_outcome.specs.Changes.{Change}
 use Rattle.eg_input.specs.declared.fault.TraceFault.TheVariants as trace_fault
 use Rattle.eg_input.specs.declared.fault.ImageFault.TheVariants as image_fault
 use Rattle.eg_asm.specs.declared.fault.AsmFault.TheVariants as asm_fault
@@ -67,12 +67,3 @@ pub record PutsText (text : List ℕ) (out : Change ShownSink) (o : Outcome) : T
   pub put : PutsNothing o → ⊥
   pub sure : IsTrue out.before.sure → o ≢ outcome.Memory
   pub stays_sure : out.after.sure ≡ out.before.sure
-
--- However a command that plays runs ends: no refusal tells that memory ran out, and no file changes; and
--- where nothing is put, output and count of ticks are as they were.
-pub record EndsOrderly {K T : Type 0} (store : Change ShownStore) (out : Change K) (ticks : Change T)
-    (o : Outcome) : Type 0 where
-  pub no_memory : TellsNoMemory o
-  pub files : store.after.files ≡ store.before.files
-  pub nothing_put : PutsNothing o → Stays out
-  pub nothing_played : PutsNothing o → Stays ticks

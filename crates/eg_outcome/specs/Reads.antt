@@ -81,7 +81,3 @@ Finds name store = ¬ Rose store.before.faults store.after.faults
 -- whatever a read of the file may give is accepted
 abbrev pub Accepts : {X : Type 0} → (List ℕ → Result X Refusal) → List ℕ → ShownStore → Type 0
 Accepts says name store = (bytes : List ℕ) → AreRead store name bytes → IsOk (says bytes)
-
--- reading the file of this role and name is told to fail exactly if there is no such file
-abbrev pub TellsMissingFile : Role → List ℕ → ShownStore → Outcome → Type 0
-TellsMissingFile file name store o = (o ≡ outcome.ReadFault file) ↔ IsMissing store.files name

@@ -68,6 +68,17 @@ names-file campaign store plans (Some (role.Trace n)) name (bytes, read, says) i
 names-file campaign store plans (Some (role.Image n)) name (bytes, read, says) is some = (bytes, read, plans, says, some, is)
 names-file campaign store plans _ name (bytes, read, says) is some = some
 
+-- so of whatever comes of the files of all runs
+pub names-inputs : {X : Type 0} (campaign : List ℕ) (store : ShownStore) (plans : List RunPlan) (result : Result X End)
+    → ReadComes campaign_file campaign store (Ok plans) → IfErr result (λ end. end.file ≡ name_for plans (role_in end.outcome))
+    → IfErr result (λ end. IsNamedIfOfRun (role_in end.outcome) end.file) → IfErr result (λ end. NamesFile campaign store (role_in end.outcome) end.file)
+names-inputs campaign store plans (Ok x) comes is some = tt
+names-inputs campaign store plans (Err end) comes is some = names-file campaign store plans (role_in end.outcome) end.file comes is some
+
+-- a campaign that was read isn't told to be missing
+pub not-told : {X Y : Type 0} (x : X) (come : Result Y Outcome) {e e2 : Outcome} → (let read : Result X Outcome = Ok x in read ≡ Err e) → come ≡ Err e2
+not-told x come is = absurd cc
+
 -- this run is one of the runs, of which the first has number n, and its number is m
 abbrev StandsAt : ℕ → List RunPlan → ℕ → RunPlan → Type 0
 StandsAt n plans m plan =

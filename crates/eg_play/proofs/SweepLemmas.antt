@@ -35,7 +35,7 @@ use Rattle.eg_outcome.specs.declared.outcome.Outcome.TheVariants as outcome
 use Rattle.eg_table.specs.Grid.{is_too_large}
 use Rattle.eg_table.specs.SweepTexts.{sweep_text_of}
 use Rattle.eg_outcome.specs.Changes.{Change, change}
-use Rattle.eg_play.specs.Ends.{GridEnds, Plays, Sweeps}
+use Rattle.eg_play.specs.Ends.{Plays, Sweeps}
 use Rattle.eg_play.specs.Sweeping.{without_reset, without_resets, faults_over, runs_over, table_over, swept_text}
 use Rattle.eg_play.proofs.HeadlineLemmas.{keep_headline}
 use Rattle.eg_play.proofs.PlayLemmas.{no_memory}
@@ -101,48 +101,37 @@ in_time cal accepted step some input playable =
 
 -- ---- how a sweep ends ----
 
-grid_is : (large : Bool) (nothing work : Type 0) (o : Outcome) → large ≡ false → work → GridEnds large nothing work o
-grid_is true nothing work o small did = absurd cc
-grid_is false nothing work o small did = did
-
 -- the runs of an input under these faults were played, or memory ran out
 abbrev pub PlaysUnder : CalibrationParts → RunInput → List Fault → Change ShownSink → Change TickCount → Outcome → Type 0
 PlaysUnder cal input faults out ticks o = Plays (sweep_text_of (table_of faults (map (facts_by cal) (inputs_under input faults))))
     (map (run_with cal) (inputs_under input faults)) (rows_of_group cal (inputs_under input faults)) out ticks o
 
 pub swept-ends : (cal : CalibrationParts) → IsAccepted cal → (step : ℕ) → 1 ≤ step → (input : RunInput) → IsPlayable input →
-    (out : Change ShownSink) (ticks : Change TickCount) (nothing : Type 0) (o : Outcome) → is_too_large (length input.drive) step ≡ false →
+    (out : Change ShownSink) (ticks : Change TickCount) (o : Outcome) →
     (plain : RunInput) (faults : List Fault) → plain ≡ without_resets input → faults ≡ swept_faults (length input.drive) step →
-    PlaysUnder cal plain faults out ticks o → GridEnds (is_too_large (length input.drive) step) nothing (Sweeps cal step input out ticks o) o
+    PlaysUnder cal plain faults out ticks o → Sweeps cal step input out ticks o
 unfolding swept_text table_over runs_over faults_over
-swept-ends cal accepted step some input playable out ticks nothing o small plain faults is are plays =
-    grid_is (is_too_large (length input.drive) step) nothing (Sweeps cal step input out ticks o) o small (record {
-      plays = subst (λ (fs : List Fault). PlaysUnder cal (without_resets input) fs out ticks o) are
-          (subst (λ (x : RunInput). PlaysUnder cal x faults out ticks o) is plays);
-      in_time = in_time cal accepted step some input playable;
-    })
+swept-ends cal accepted step some input playable out ticks o plain faults is are plays = record {
+  plays = subst (λ (fs : List Fault). PlaysUnder cal (without_resets input) fs out ticks o) are
+      (subst (λ (x : RunInput). PlaysUnder cal x faults out ticks o) is plays);
+  in_time = in_time cal accepted step some input playable;
+}
 
 -- memory ran out before the first tick
 pub not-swept : (cal : CalibrationParts) → IsAccepted cal → (step : ℕ) → 1 ≤ step → (input : RunInput) → IsPlayable input →
-    (out : ShownSink) (was : TickCount) (nothing : Type 0) → was.count < 2 ^ 64 → was.weights < 2 ^ 64 → is_too_large (length input.drive) step ≡ false →
-    GridEnds (is_too_large (length input.drive) step) nothing (Sweeps cal step input (change out out) (change was was) outcome.Memory) outcome.Memory
-not-swept cal accepted step some input playable out was nothing count weights small =
+    (out : ShownSink) (was : TickCount) → was.count < 2 ^ 64 → was.weights < 2 ^ 64 →
+    Sweeps cal step input (change out out) (change was was) outcome.Memory
+not-swept cal accepted step some input playable out was count weights =
     let faults = swept_faults (length input.drive) step in
     let plain = without_resets input in
     let inputs = inputs_under plain faults in
-    swept-ends cal accepted step some input playable (change out out) (change was was) nothing outcome.Memory small plain faults refl refl
+    swept-ends cal accepted step some input playable (change out out) (change was was) outcome.Memory plain faults refl refl
     (no_memory (sweep_text_of (table_of faults (map (facts_by cal) inputs))) (map (run_with cal) inputs) (rows_of_group cal inputs) out (change was was)
     (out_before was (rows_of_group cal inputs) count weights)
     (keep_headline cal accepted inputs (all-playable plain faults (playable-without input playable) (swept_valid (length input.drive) step playable.most some))))
 
--- a grid that isn't told as too large isn't
-pub small_grid : {T : Type 0} (result : Result T SweepFault) (large : Bool) → ((result ≡ Err fault.Grid) ↔ IsTrue large) → ¬ (result ≡ Err fault.Grid) →
-    large ≡ false
-small_grid result true grid never = absurd (never (grid.1 refl))
-small_grid result false grid never = refl
-
-pub not_memory : {T : Type 0} (result : Result T SweepFault) → result ≡ Err fault.Memory → ¬ (result ≡ Err fault.Grid)
-not_memory result is other = cc
-
-pub not_faults : {T : Type 0} (result : Result T SweepFault) (faults : T) → result ≡ Ok faults → ¬ (result ≡ Err fault.Grid)
-not_faults result faults is other = cc
+-- a grid that isn't too large isn't told to be
+pub never_large : {T : Type 0} (result : Result T SweepFault) (large : Bool) → ((result ≡ Err fault.Grid) ↔ IsTrue large) → large ≡ false →
+    result ≡ Err fault.Grid → ⊥
+never_large result true grid small told = absurd cc
+never_large result false grid small told = absurd (grid.0 told)

@@ -1,8 +1,8 @@
--- On Done `run`, `table`, `margins`, `record` and `sweep` have written their whole text on runs that keep
--- the headline; after a refusal or a failed read they put nothing. This is said by cases on the outcome,
--- nested from the outside in, as of `check` and `bound`.
-use Rattle.std.specs.Prelude.{◌≡◌, ℕ, Bool, true, false, ◌+◌, ◌-◌, length, List, [], ◌∷◌, map, All, Option, Some, None, option_map, Result, Ok, Err, IsSome, slice_get, bytes_eq, if◌then◌else◌}
-use Rattle.eg_base.specs.Outside.{ShownStore, ShownSink}
+-- What `run`, `table`, `margins`, `record`, `sweep` and `couple` read: a campaign, and the files of its runs.
+-- And what is written of runs once their inputs are known: on Done the whole text on runs that keep the
+-- headline.
+use Rattle.std.specs.Prelude.{◌≡◌, ℕ, Bool, true, false, ◌+◌, ◌-◌, length, List, [], ◌∷◌, map, All, Option, Some, None, option_map, Result, Ok, Err, IsSome, IsTrue, IfErr, slice_get, bytes_eq, if◌then◌else◌}
+use Rattle.eg_base.specs.Outside.{ShownStore, ShownSink, IsMissing}
 use Rattle.eg_num.specs.Drive.{DriveRow}
 use Rattle.eg_answer.specs.Times.{reaction_of}
 use Rattle.eg_laws.specs.Limits.{KeepsLimits}
@@ -11,13 +11,12 @@ use Rattle.eg_record.specs.declared.row.Row.{Row}
 use Rattle.eg_tick.specs.Weights.{TickCount}
 use Rattle.eg_plan.specs.declared.run.RunPlan.{RunPlan}
 use Rattle.eg_campaign.specs.declared.play.RunInput.{RunInput}
-use Rattle.eg_outcome.specs.Changes.{Change, Stays, MeetsNoFault}
+use Rattle.eg_outcome.specs.Changes.{Change, MeetsNoFault}
 use Rattle.eg_outcome.specs.Files.{AreRead}
-use Rattle.eg_outcome.specs.Outcomes.{LineEnds, WorkFollows, Then}
+use Rattle.eg_outcome.specs.Outcomes.{LineEnds, Then, TellsNoMemory}
 pub use Rattle.eg_outcome.specs.Roles.{role_in}
 use Rattle.eg_outcome.specs.Images.{image_file}
-use Rattle.eg_outcome.specs.Reads.{FileComes, ReadComes, Finds, Accepts}
-use Rattle.eg_outcome.specs.Calibrations.{CalibratedEnds}
+use Rattle.eg_outcome.specs.Reads.{FileComes, ReadComes, Finds, Accepts, KeepsFiles}
 use Rattle.eg_outcome.specs.declared.outcome.Outcome.{Outcome}
 use Rattle.eg_outcome.specs.declared.outcome.Outcome.TheVariants as outcome
 use Rattle.eg_outcome.specs.declared.outcome.Refusal.TheVariants as refusal
@@ -26,7 +25,8 @@ use Rattle.eg_outcome.specs.declared.outcome.Role.TheVariants as role
 use Rattle.eg_table.specs.Grid.{is_too_large}
 use Rattle.eg_table.specs.SweepLaws.{IsBounded}
 use Rattle.eg_play.specs.Files.{campaign_file, trace_file}
-use Rattle.eg_play.specs.Inputs.{ImageComes, InputComes, InputsCome, FindsInput, AcceptsInput}
+use Rattle.eg_play.specs.declared.end.End.{End}
+use Rattle.eg_play.specs.Inputs.{ImageComes, InputComes, InputsCome, FindsInput, AcceptsInput, outcomes}
 use Rattle.eg_play.specs.Headline.{KeepsHeadline}
 use Rattle.eg_play.specs.InWords.{TellsInWords}
 use Rattle.eg_tick.specs.Counting.{count_with, RanOutAmong}
@@ -37,15 +37,6 @@ use Rattle.eg_campaign.specs.Recording.{IsStopped}
 use Rattle.eg_play.specs.declared.telling.Telling.{Telling}
 use Rattle.eg_play.specs.Texts.{runs_text}
 use Rattle.eg_play.specs.Sweeping.{runs_over, table_over, swept_text}
-
--- what a call that plays runs changes: its store, its output and its count of ticks
-pub record Call : Type 0 where
-  pub store : Change ShownStore
-  pub out : Change ShownSink
-  pub ticks : Change TickCount
-
-abbrev pub call : Change ShownStore → Change ShownSink → Change TickCount → Call
-call store out ticks = record { store = store; out = out; ticks = ticks }
 
 -- ---- runs are played ----
 
@@ -62,10 +53,6 @@ pub record Plays (text : List ℕ) (runs : List EngineRun) (rows : List Row) (ou
   pub written : LineEnds text out o
   pub ticked : AreTicked rows ticks o
   pub headline : All KeepsHeadline runs
-
--- nothing was put, and no tick was made
-abbrev pub NothingPlayed : Change ShownSink → Change TickCount → Type 0
-NothingPlayed out ticks = Stays out × Stays ticks
 
 -- ---- `run [--cal NAME] CAMPAIGN`, and `table` and `margins` likewise ----
 
@@ -86,17 +73,6 @@ pub record Tells (telling : Telling) (cal : CalibrationParts) (inputs : List Run
   pub within_limits : All (TellsWithinLimits cal) inputs
   pub in_words : All (TellsInWords cal) inputs
 
--- the inputs of all runs are known, and no fault of reading was met: they are told
-abbrev pub TellingEnds : Telling → CalibrationParts → List RunInput → Call → Outcome → Type 0
-TellingEnds telling cal inputs call o =
-    MeetsNoFault call.store × Tells telling cal inputs call.out call.ticks o
-
--- the runs of the campaign are known: their files are read in order
-abbrev pub RunsEnd : Telling → CalibrationParts → List RunPlan → Call → Outcome → Type 0
-RunsEnd telling cal plans call o = (come : Result (List RunInput) Outcome)
-    × InputsCome call.store 1 0 plans come
-    × WorkFollows (λ inputs. TellingEnds telling cal inputs call) (NothingPlayed call.out call.ticks) come o
-
 -- ---- `record [--cal NAME] CAMPAIGN RUN` ----
 
 -- The ticks of a record are made and counted as its lines are written: on Done all of them; else those up to
@@ -116,10 +92,6 @@ pub record Records (cal : CalibrationParts) (input : RunInput) (out : Change Sho
   pub ticked : AreTickedInTurn cal input out ticks o
   pub headline : KeepsHeadline (run_with cal input)
 
--- the input of the run is known, and no fault of reading was met: its record is written
-abbrev pub RecordEnds : CalibrationParts → RunInput → Call → Outcome → Type 0
-RecordEnds cal input call o = MeetsNoFault call.store × Records cal input call.out call.ticks o
-
 -- ---- `sweep [--cal NAME] CAMPAIGN RUN STEP` ----
 
 -- The runs of a sweep were played, as one group, and their table was written: on Done all of it. The record
@@ -131,24 +103,13 @@ pub record Sweeps (cal : CalibrationParts) (step : ℕ) (input : RunInput) (out 
       (rows_of_group cal (runs_over step input)) out ticks o
   pub in_time : IsBounded (reaction_of cal.times) (table_over cal step input)
 
--- a grid is refused where it is too large, and else the work is done
-abbrev pub GridEnds : (is_too_large : Bool) → (nothing work : Type 0) → Outcome → Type 0
-GridEnds true nothing work o = (o ≡ outcome.Refused refusal.Grid) × nothing
-GridEnds false nothing work o = work
-
--- the input of the run is known, and no fault of reading was met
-abbrev pub SweepEnds : CalibrationParts → (step : ℕ) → RunInput → Call → Outcome → Type 0
-SweepEnds cal step input call o = MeetsNoFault call.store
-    × GridEnds (is_too_large (length input.drive) step) (NothingPlayed call.out call.ticks)
-    (Sweeps cal step input call.out call.ticks o) o
-
 -- ---- which runs are played ----
 
--- the campaign is read, and the work follows with its runs
-abbrev pub CampaignEnds : List ℕ → (List RunPlan → Call → Outcome → Type 0) → Call → Outcome → Type 0
-CampaignEnds campaign work call o = (come : Result (List RunPlan) Outcome)
-    × FileComes role.Campaign campaign_file campaign call.store come
-    × WorkFollows (λ plans. work plans call) (NothingPlayed call.out call.ticks) come o
+-- the campaign is read, and then the files of all its runs, in their order
+abbrev pub RunsCome : (campaign : List ℕ) → Change ShownStore → Result (List RunInput) Outcome → Type 0
+RunsCome campaign store come = (plans : Result (List RunPlan) Outcome)
+    × FileComes role.Campaign campaign_file campaign store plans
+    × Then (λ found made. InputsCome store 1 0 found made) plans come
 
 -- the first run of this name, with its number, where n is the number of the first run of the list
 abbrev pub run_named : List ℕ → ℕ → List RunPlan → Option (ℕ × RunPlan)
@@ -172,6 +133,18 @@ NamedComes campaign name store come = (plans : Result (List RunPlan) Outcome)
     × FileComes role.Campaign campaign_file campaign store plans
     × Then (λ found made. FoundComes (run_named name 1 found) store made) plans come
 
+-- a grid is refused where it is too large
+abbrev pub GridComes : (is_too_large : Bool) → Change ShownStore → RunInput → Result RunInput Outcome → Type 0
+GridComes true store input come = (come ≡ Err (outcome.Refused refusal.Grid)) × MeetsNoFault store
+GridComes false store input come = come ≡ Ok input
+
+-- the same, and then a grid over the run's drive, with a fault of each class at each `step`th tick
+abbrev pub SweptComes :
+    (campaign name : List ℕ) → (step : ℕ) → Change ShownStore → Result RunInput Outcome → Type 0
+SweptComes campaign name step store come = (input : Result RunInput Outcome)
+    × NamedComes campaign name store input
+    × Then (λ one made. GridComes (is_too_large (length one.drive) step) store one made) input come
+
 -- ---- a run whose drive and engine come from elsewhere ----
 
 -- there is no run of that name, or its image is read, and no trace
@@ -184,33 +157,6 @@ abbrev pub UndrivenComes : (campaign name : List ℕ) → Change ShownStore → 
 UndrivenComes campaign name store come = (plans : Result (List RunPlan) Outcome)
     × FileComes role.Campaign campaign_file campaign store plans
     × Then (λ found made. FoundUndriven (run_named name 1 found) store made) plans come
-
--- the input of the run of that name comes, and the work follows with it
-abbrev pub NamedEnds :
-    (campaign name : List ℕ) → (RunInput → Call → Outcome → Type 0) → Call → Outcome → Type 0
-NamedEnds campaign name work call o = (come : Result RunInput Outcome)
-    × NamedComes campaign name call.store come
-    × WorkFollows (λ input. work input call) (NothingPlayed call.out call.ticks) come o
-
--- ---- each command ----
-
--- the calibration comes, and what the command does by it follows
-abbrev pub CommandEnds :
-    Option (List ℕ) → (CalibrationParts → Call → Outcome → Type 0) → Call → Outcome → Type 0
-CommandEnds calibration work call o =
-    CalibratedEnds calibration call.store (NothingPlayed call.out call.ticks) (λ cal. work cal call) o
-
-abbrev pub CampaignCommandEnds : Telling → Option (List ℕ) → List ℕ → Call → Outcome → Type 0
-CampaignCommandEnds telling calibration campaign =
-    CommandEnds calibration (λ cal. CampaignEnds campaign (RunsEnd telling cal))
-
-abbrev pub RecordCommandEnds : Option (List ℕ) → List ℕ → List ℕ → Call → Outcome → Type 0
-RecordCommandEnds calibration campaign name =
-    CommandEnds calibration (λ cal. NamedEnds campaign name (RecordEnds cal))
-
-abbrev pub SweepCommandEnds : Option (List ℕ) → List ℕ → List ℕ → (step : ℕ) → Call → Outcome → Type 0
-SweepCommandEnds calibration campaign name step =
-    CommandEnds calibration (λ cal. NamedEnds campaign name (SweepEnds cal step))
 
 -- ---- when the work is done ----
 
@@ -280,3 +226,14 @@ abbrev pub NamesFile : List ℕ → ShownStore → Option Role → Option (List 
 NamesFile campaign store (Some (role.Trace n)) name = IsNameIn campaign store (role.Trace n) name
 NamesFile campaign store (Some (role.Image n)) name = IsNameIn campaign store (role.Image n) name
 NamesFile campaign store _ name = name ≡ None
+
+-- What holds of whatever comes of a campaign and of files of its runs: an end that speaks of a file of a run
+-- has its name; over a sure store a missing campaign is told; no refusal tells that memory ran out; and no
+-- file changes.
+pub record ReadsCampaign {X : Type 0} (campaign : List ℕ) (store : Change ShownStore) (come : Result X End) :
+    Type 0 where
+  pub named : IfErr come (λ end. NamesFile campaign store.before (role_in end.outcome) end.file)
+  pub missing : IsTrue store.before.sure → IsMissing store.before.files campaign
+      → outcomes come ≡ Err (outcome.ReadFault role.Campaign)
+  pub no_memory : IfErr come (λ end. TellsNoMemory end.outcome)
+  pub keeps : KeepsFiles store come

@@ -7,9 +7,10 @@ ghost use Rattle.eg_outcome.specs.Outcomes.{TellsNoMemory};
 ghost use Rattle.eg_outcome.specs.Reads.{KeepsFiles};
 ghost use Rattle.eg_outcome.specs.declared.outcome.Outcome.TheVariants.{Memory};
 ghost use Rattle.eg_play.specs.Inputs.{InputsCome, outcomes};
-ghost use Rattle.eg_play.specs.Ends.{role_in, name_for, IsNamedIfOfRun};
+ghost use Rattle.eg_play.specs.Ends.{role_in, name_for, IsNamedIfOfRun, ReadsCampaign, RunsCome};
 
 use crate::End;
+use crate::campaign::campaign_for;
 use crate::input::input_for;
 use crate::traces::Traces;
 use eg_base::{Items, Store};
@@ -18,9 +19,26 @@ use eg_outcome::Outcome;
 use eg_plan::RunPlan;
 use std::alloc::Global;
 
+/// The inputs of all runs of the campaign in the file of that name, in its order: the campaign is read, and
+/// then the files of its runs (docs/FORMATS.md, "Outcomes").
+pub fn inputs_of<S: Store>(
+    alloc: Global,
+    campaign: &str,
+    store: &mut S,
+) -> Result<Items<RunInput>, End>
+    ensures comes { RunsCome campaign.now (change_of S.shows store.old store.new) (outcomes result) }
+    ensures playable { IfOk result (λ inputs. All IsPlayable inputs) }
+    ensures campaign { ReadsCampaign campaign.now (change_of S.shows store.old store.new) result }
+{
+    match campaign_for(alloc, campaign, store) {
+        Ok(plans) => inputs_for(alloc, plans, store),
+        Err(outcome) => Err(End::of(outcome)),
+    }
+}
+
 /// The inputs of all runs of a campaign, in its order. A trace with the bytes of the one before is read, but
 /// isn't parsed again, and runs with equal drives share one.
-pub(crate) fn inputs_for<S: Store>(
+fn inputs_for<S: Store>(
     alloc: Global,
     plans: Items<RunPlan>,
     store: &mut S,

@@ -1,18 +1,17 @@
 // The run of a campaign that has a name.
-ghost use Rattle.std.specs.Prelude.{◌≡◌, ◌≤◌, length, IsTrue, IfErr, IfOk, Err, Some, None, bytes_eq};
-ghost use Rattle.eg_base.specs.Outside.{IsMissing};
+ghost use Rattle.std.specs.Prelude.{◌≡◌, ◌≤◌, length, IfErr, IfOk, Err, Some, None, bytes_eq};
+ghost use Rattle.eg_base.specs.Outside.{ShownStore};
 ghost use Rattle.eg_plan.specs.Rules.{AreRuns};
 ghost use Rattle.eg_fault.specs.Faults.{IsNoneOrValid};
 ghost use Rattle.eg_input.specs.declared.image.TheConstants.{MOST_WORDS};
 ghost use Rattle.eg_campaign.specs.Plays.{IsPlayable};
-ghost use Rattle.eg_outcome.specs.Changes.{change_of};
-ghost use Rattle.eg_outcome.specs.Outcomes.{TellsNoMemory};
-ghost use Rattle.eg_outcome.specs.Reads.{KeepsFiles};
-ghost use Rattle.eg_outcome.specs.declared.outcome.Outcome.TheVariants.{ReadFault, Refused};
-ghost use Rattle.eg_outcome.specs.declared.outcome.Refusal.TheVariants.{NoRun};
-ghost use Rattle.eg_outcome.specs.declared.outcome.Role.TheVariants as role;
+ghost use Rattle.eg_outcome.specs.Changes.{change, change_of};
+ghost use Rattle.eg_outcome.specs.declared.outcome.Outcome.TheVariants.{Refused};
+ghost use Rattle.eg_outcome.specs.declared.outcome.Refusal.TheVariants.{Grid, NoRun};
+ghost use Rattle.eg_table.specs.Grid.{is_too_large};
 ghost use Rattle.eg_play.specs.Inputs.{outcomes};
-ghost use Rattle.eg_play.specs.Ends.{FindsNamed, NamedComes, UndrivenComes, run_named, NamesFile, role_in};
+ghost use Rattle.eg_play.specs.Ends.{FindsNamed, GridComes, NamedComes, ReadsCampaign, SweptComes, UndrivenComes, run_named};
+ghost use Rattle.eg_play.specs.Sweeping.{IsSweepable};
 
 use crate::End;
 use crate::campaign::campaign_for;
@@ -22,6 +21,7 @@ use eg_base::{Items, Store};
 use eg_campaign::RunInput;
 use eg_outcome::{Outcome, Refusal};
 use eg_plan::RunPlan;
+use eg_table::is_too_large;
 use std::alloc::Global;
 
 /// Which run of a campaign is asked for.
@@ -35,7 +35,7 @@ pub struct NamedRun<'a> {
 
 /// The input of the run of that name: the campaign is read, and then the files of this run alone
 /// (docs/FORMATS.md, "Outcomes").
-pub(crate) fn input_named<S: Store>(
+pub fn input_named<S: Store>(
     alloc: Global,
     run: NamedRun<'_>,
     store: &mut S,
@@ -43,13 +43,7 @@ pub(crate) fn input_named<S: Store>(
     ensures comes { NamedComes run.entry.campaign.now run.entry.name.now
         (change_of S.shows store.old store.new) (outcomes result) }
     ensures playable { IfOk result IsPlayable }
-    ensures named { IfErr result (λ end.
-        NamesFile run.entry.campaign.now (S.shows store.old) (role_in end.outcome) end.file) }
-    ensures missing { IsTrue (S.shows store.old).sure
-        → IsMissing (S.shows store.old).files run.entry.campaign.now
-        → outcomes result ≡ Err (ReadFault role.Campaign) }
-    ensures no_memory { IfErr result (λ end. TellsNoMemory end.outcome) }
-    ensures keeps { KeepsFiles (change_of S.shows store.old store.new) result }
+    ensures campaign { ReadsCampaign run.entry.campaign.now (change_of S.shows store.old store.new) result }
 {
     match plan_named(alloc, run, store) {
         Ok((number, plan)) => {
@@ -57,6 +51,41 @@ pub(crate) fn input_named<S: Store>(
         }
         Err(end) => Err(end),
     }
+}
+
+/// The input of the run of that name, for a sweep over all classes of faults at each `step`th tick
+/// (docs/FORMATS.md, "Commands"). A grid that is too large is refused.
+pub fn input_swept<S: Store>(
+    alloc: Global,
+    run: NamedRun<'_>,
+    step: u32,
+    store: &mut S,
+) -> Result<RunInput, End>
+    requires step { 1 ≤ step }
+    ensures comes { SweptComes run.entry.campaign.now run.entry.name.now step
+        (change_of S.shows store.old store.new) (outcomes result) }
+    ensures sweepable { IfOk result (IsSweepable step) }
+    ensures campaign { ReadsCampaign run.entry.campaign.now (change_of S.shows store.old store.new) result }
+{
+    match input_named(alloc, run, store) {
+        Ok(input) => within_grid(input, step),
+        Err(end) => Err(end),
+    }
+}
+
+/// This input, unless the grid over its drive is too large.
+fn within_grid(input: RunInput, step: u32) -> Result<RunInput, End>
+    requires playable { IsPlayable input }
+    requires step { 1 ≤ step }
+    ensures comes { (store : ShownStore) →
+        GridComes (is_too_large (length input.drive) step) (change store store) input (outcomes result) }
+    ensures sweepable { IfOk result (IsSweepable step) }
+    ensures refused { IfErr result (λ end. (end.outcome ≡ Refused Grid) × (end.file ≡ None)) }
+{
+    if is_too_large(input.drive.as_slice().len() as u32, step) {
+        return Err(End::of(Outcome::Refused(Refusal::Grid)));
+    }
+    Ok(input)
 }
 
 /// What the run of that name is made of besides its drive: the campaign is read, and then the image of this
@@ -70,13 +99,7 @@ pub fn undriven_named<S: Store>(
         (change_of S.shows store.old store.new) (outcomes result) }
     ensures fault { IfOk result (λ input. IsNoneOrValid input.plan.fault) }
     ensures image { IfOk result (λ input. length input.image ≤ MOST_WORDS) }
-    ensures named { IfErr result (λ end.
-        NamesFile run.entry.campaign.now (S.shows store.old) (role_in end.outcome) end.file) }
-    ensures missing { IsTrue (S.shows store.old).sure
-        → IsMissing (S.shows store.old).files run.entry.campaign.now
-        → outcomes result ≡ Err (ReadFault role.Campaign) }
-    ensures no_memory { IfErr result (λ end. TellsNoMemory end.outcome) }
-    ensures keeps { KeepsFiles (change_of S.shows store.old store.new) result }
+    ensures campaign { ReadsCampaign run.entry.campaign.now (change_of S.shows store.old store.new) result }
 {
     match plan_named(alloc, run, store) {
         Ok((number, plan)) => undriven_for(alloc, number, plan, store),
@@ -97,13 +120,7 @@ fn plan_named<S: Store>(
         (change_of S.shows store.old store.new) (Err end.outcome)) }
     ensures undriven_ends { IfErr result (λ end. UndrivenComes run.entry.campaign.now run.entry.name.now
         (change_of S.shows store.old store.new) (Err end.outcome)) }
-    ensures named { IfErr result (λ end.
-        NamesFile run.entry.campaign.now (S.shows store.old) (role_in end.outcome) end.file) }
-    ensures missing { IsTrue (S.shows store.old).sure
-        → IsMissing (S.shows store.old).files run.entry.campaign.now
-        → outcomes result ≡ Err (ReadFault role.Campaign) }
-    ensures no_memory { IfErr result (λ end. TellsNoMemory end.outcome) }
-    ensures keeps { KeepsFiles (change_of S.shows store.old store.new) result }
+    ensures campaign { ReadsCampaign run.entry.campaign.now (change_of S.shows store.old store.new) result }
 {
     match campaign_for(alloc, run.campaign, store) {
         Ok(plans) => plan_among(plans, run.name),

@@ -3,7 +3,6 @@ ghost use Rattle.std.specs.Prelude.{All, map};
 ghost use Rattle.eg_campaign.specs.Groups.{rows_made};
 ghost use Rattle.eg_campaign.specs.Plays.{IsPlayable, run_with};
 ghost use Rattle.eg_outcome.specs.Changes.{change, change_of};
-ghost use Rattle.eg_outcome.specs.Outcomes.{PutsNothing};
 ghost use Rattle.eg_play.specs.Texts.{report_text};
 ghost use Rattle.eg_play.specs.Ends.{Plays, Records, Tells};
 
@@ -19,7 +18,7 @@ use std::alloc::Global;
 
 /// Plays the runs of a campaign, and puts what is told of them in this way (docs/FORMATS.md, "Commands"). The
 /// ticks are counted in `steps`.
-pub(crate) fn put_told<K: Sink>(
+pub fn put_told<K: Sink>(
     alloc: Global,
     telling: Telling,
     calibration: &Calibration,
@@ -28,9 +27,8 @@ pub(crate) fn put_told<K: Sink>(
     steps: &mut Ticks,
 ) -> Outcome
     requires { All IsPlayable inputs.now }
-    ensures tells { Tells telling calibration.now inputs.now
+    ensures { Tells telling calibration.now inputs.now
         (change_of K.shows out.old out.new) (change steps.old steps.new) result }
-    ensures put { PutsNothing result → ⊥ }
 {
     // Called for its clause alone: the calibration is an accepted one.
     let _rules = calibration.rules();
@@ -50,10 +48,9 @@ fn put_report<K: Sink>(
     steps: &mut Ticks,
 ) -> Outcome
     requires { All IsPlayable inputs.now }
-    ensures plays { Plays (report_text calibration.now inputs.now)
+    ensures { Plays (report_text calibration.now inputs.now)
         (map (run_with calibration.now) inputs.now) (rows_made calibration.now inputs.now)
         (change_of K.shows out.old out.new) (change steps.old steps.new) result }
-    ensures put { PutsNothing result → ⊥ }
 {
     // Called for its clause alone: the calibration is an accepted one.
     let _rules = calibration.rules();
@@ -68,7 +65,7 @@ fn put_report<K: Sink>(
 
 /// Plays one run of a campaign, and puts its record as its ticks are made (docs/FORMATS.md, "The record").
 /// The ticks are counted in `steps`.
-pub(crate) fn put_record<K: Sink>(
+pub fn put_record<K: Sink>(
     alloc: Global,
     calibration: &Calibration,
     input: &RunInput,
@@ -76,9 +73,8 @@ pub(crate) fn put_record<K: Sink>(
     steps: &mut Ticks,
 ) -> Outcome
     requires { IsPlayable input.now }
-    ensures records { Records calibration.now input.now
+    ensures { Records calibration.now input.now
         (change_of K.shows out.old out.new) (change steps.old steps.new) result }
-    ensures put { PutsNothing result → ⊥ }
 {
     // Called for its clause alone: the calibration is an accepted one.
     let _rules = calibration.rules();

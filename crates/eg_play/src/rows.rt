@@ -3,7 +3,6 @@ ghost use Rattle.std.specs.Prelude.{◌≡◌, ◌++◌, All, map, IfOk, OnOk, s
 ghost use Rattle.eg_campaign.specs.Groups.{AreTold, rows_made, told_by};
 ghost use Rattle.eg_campaign.specs.Plays.{IsPlayable, run_with};
 ghost use Rattle.eg_outcome.specs.Changes.{change, change_of};
-ghost use Rattle.eg_outcome.specs.Outcomes.{PutsNothing};
 ghost use Rattle.eg_play.specs.Texts.{header_of, line_of, rows_by, rows_text, weighs};
 ghost use Rattle.eg_play.specs.Ends.{Plays};
 
@@ -29,10 +28,9 @@ pub(crate) fn put_rows<K: Sink>(
     steps: &mut Ticks,
 ) -> Outcome
     requires { All IsPlayable inputs.now }
-    ensures plays { Plays (rows_text columns calibration.now inputs.now)
+    ensures { Plays (rows_text columns calibration.now inputs.now)
         (map (run_with calibration.now) inputs.now) (rows_made calibration.now inputs.now)
         (change_of K.shows out.old out.new) (change steps.old steps.new) result }
-    ensures put { PutsNothing result → ⊥ }
 {
     // Called for its clause alone: the calibration is an accepted one.
     let _rules = calibration.rules();

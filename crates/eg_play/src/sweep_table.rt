@@ -3,26 +3,25 @@ ghost use Rattle.std.specs.Prelude.{◌≡◌, ◌≤◌, All, map, length};
 ghost use Rattle.eg_fault.specs.Faults.{IsValid};
 ghost use Rattle.eg_campaign.specs.Groups.{inputs_under, rows_of_group, facts_by};
 ghost use Rattle.eg_campaign.specs.Plays.{IsPlayable, run_with};
-ghost use Rattle.eg_table.specs.Grid.{is_too_large};
 ghost use Rattle.eg_table.specs.Sweep.{table_of};
 ghost use Rattle.eg_table.specs.SweepTexts.{sweep_text_of};
 ghost use Rattle.eg_outcome.specs.Changes.{change, change_of};
-ghost use Rattle.eg_outcome.specs.Outcomes.{PutsNothing, TellsNoMemory};
-ghost use Rattle.eg_play.specs.Ends.{NothingPlayed, GridEnds, Plays, Sweeps};
+ghost use Rattle.eg_play.specs.Ends.{Plays, Sweeps};
+ghost use Rattle.eg_play.specs.Sweeping.{IsSweepable};
 
 use crate::swept::without_resets;
 use eg_base::Sink;
 use eg_campaign::{RunInput, facts_under};
 use eg_fault::Fault;
-use eg_outcome::{Outcome, Refusal, put_text};
+use eg_outcome::{Outcome, put_text};
 use eg_table::{SweepFault, sweep_faults, sweep_text, tabulate};
 use eg_tick::Ticks;
 use eg_values::Calibration;
 use std::alloc::Global;
 
-/// Plays the runs of a sweep over one run, and puts their table (docs/FORMATS.md, "The table of `sweep`"). A
-/// grid that is too large is refused. The ticks are counted in `steps`.
-pub(crate) fn put_table<K: Sink>(
+/// Plays one run, without its resets, under a fault of each class at each `step`th tick, and puts the table of
+/// these runs (docs/FORMATS.md, "The table of `sweep`"). The ticks are counted in `steps`.
+pub fn put_table<K: Sink>(
     alloc: Global,
     calibration: &Calibration,
     input: RunInput,
@@ -30,22 +29,17 @@ pub(crate) fn put_table<K: Sink>(
     out: &mut K,
     steps: &mut Ticks,
 ) -> Outcome
-    requires playable { IsPlayable input }
+    requires sweepable { IsSweepable step input }
     requires step { 1 ≤ step }
-    ensures ends { GridEnds (is_too_large (length input.drive) step)
-        (NothingPlayed (change_of K.shows out.old out.new) (change steps.old steps.new))
-        (Sweeps calibration.now step input (change_of K.shows out.old out.new)
-        (change steps.old steps.new) result) result }
-    ensures no_memory { TellsNoMemory result }
-    ensures nothing_put { PutsNothing result → out.new ≡ out.old }
-    ensures nothing_played { PutsNothing result → steps.new ≡ steps.old }
+    ensures { Sweeps calibration.now step input (change_of K.shows out.old out.new)
+        (change steps.old steps.new) result }
 {
     // Called for their clauses alone: the calibration is an accepted one, and both numbers are a u64.
     let _rules = calibration.rules();
     let _numbers = (steps.count(), steps.sum());
     let faults = match sweep_faults(alloc, input.drive.as_slice().len() as u32, step) {
         Ok(faults) => faults,
-        Err(SweepFault::Grid) => return Outcome::Refused(Refusal::Grid),
+        Err(SweepFault::Grid) => unreachable!("the grid isn't too large"),
         Err(SweepFault::Memory) => return Outcome::Memory,
     };
     let Ok(input) = without_resets(alloc, input) else {
@@ -67,12 +61,11 @@ fn put_rows<K: Sink>(
     requires valid { All IsValid faults.now }
     requires group { 2 ≤ length faults.now }
     requires most { length faults.now ≤ 1000 }
-    ensures plays { Plays (sweep_text_of (table_of faults.now
+    ensures { Plays (sweep_text_of (table_of faults.now
         (map (facts_by calibration.now) (inputs_under input.now faults.now))))
         (map (run_with calibration.now) (inputs_under input.now faults.now))
         (rows_of_group calibration.now (inputs_under input.now faults.now))
         (change_of K.shows out.old out.new) (change steps.old steps.new) result }
-    ensures put { PutsNothing result → ⊥ }
 {
     // Called for its clause alone: the calibration is an accepted one.
     let _rules = calibration.rules();

@@ -1,17 +1,16 @@
 //! `egasim` plays drive traces against three-level engine-torque monitoring.
 #![tactic(auto)]
 
+mod late_lines;
 mod trusted_store;
 
+use crate::late_lines::LateLines;
 use crate::trusted_store::TrustedStore;
-use eg_app::{Outcome, egasim, put_note};
+use eg_app::egasim_on_lines;
 use eg_base::StdSink;
-use eg_lines::ReadLines;
-use eg_open::{egasim_on_lines, reads_lines};
 use eg_tick::Ticks;
 use std::alloc::{AllocError, Global};
 use std::env::Env;
-use std::io::BufReader;
 use std::process::ExitCode;
 use std::{env, io};
 
@@ -37,21 +36,13 @@ fn main(rt: HostRuntime) -> ExitCode {
         // A word that isn't UTF-8 is no form of a command, and no words are none either.
         Err(_) => Vec::new(alloc),
     };
+    let mut store = TrustedStore::new(&rt, &words);
+    let mut lines = LateLines::new(alloc, rt.stdin());
     let mut out = StdSink::new(rt.stdout());
     let mut notes = StdSink::new(rt.stderr());
-    let mut store = TrustedStore::new(&rt, &words);
     let mut steps = Ticks::new();
-    let outcome = if reads_lines(&words) {
-        let Ok(input) = BufReader::new(alloc, rt.stdin()) else {
-            put_note(alloc, &Outcome::Memory, "", &mut notes);
-            return ExitCode::from(NO_MEMORY);
-        };
-        let mut lines = ReadLines::new(alloc, input);
-        egasim_on_lines(
-            alloc, &words, &mut store, &mut lines, &mut out, &mut notes, &mut steps,
-        )
-    } else {
-        egasim(alloc, &words, &mut store, &mut out, &mut notes, &mut steps)
-    };
+    let outcome = egasim_on_lines(
+        alloc, &words, &mut store, &mut lines, &mut out, &mut notes, &mut steps,
+    );
     ExitCode::from(outcome.status())
 }

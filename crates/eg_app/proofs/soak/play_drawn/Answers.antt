@@ -11,20 +11,20 @@ use Rattle.eg_soak.specs.Texts.{soak_text}
 use Rattle.eg_app.proofs.SoakLemmas.{text_of, drawn_keep_headline}
 use Rattle.eg_app.proofs.soak.play_drawn.Goals as goal
 
-pub returns-in_default-clause-ends : goal.returns-in_default-clause-ends
-returns-in_default-clause-ends g c =
+pub returns-in_default : goal.returns-in_default
+returns-in_default g c =
     let a = c.args in
     let accepted : IsAccepted reference_parts = subst IsAccepted c.reference-calibration.ensures.parts c.reference-calibration.ensures.accepted in
     no_memory _ _ _ (g.K.Sink.shows a.out.now) (change a.steps.now c.soak.new.steps) c.in_default.ensures.counted (drawn_keep_headline accepted a.runs a.seed)
 
-pub returns-in_default-soak_lines-clause-ends : goal.returns-in_default-soak_lines-clause-ends
-returns-in_default-soak_lines-clause-ends g c =
+pub returns-in_default-soak_lines : goal.returns-in_default-soak_lines
+returns-in_default-soak_lines g c =
     let a = c.args in
     let accepted : IsAccepted reference_parts = subst IsAccepted c.reference-calibration.ensures.parts c.reference-calibration.ensures.accepted in
     no_lines _ _ _ (g.K.Sink.shows a.out.now) (change a.steps.now c.soak.new.steps) c.in-Ok.ensures.counted (drawn_keep_headline accepted a.runs a.seed)
 
-pub returns-clause-ends : goal.returns-clause-ends
-returns-clause-ends g c =
+pub returns : goal.returns
+returns g c =
     let a = c.args in
     let out = change_of g.K.Sink.shows a.out.now c.put_lines.new.out in
     let accepted : IsAccepted reference_parts = subst IsAccepted c.reference-calibration.ensures.parts c.reference-calibration.ensures.accepted in

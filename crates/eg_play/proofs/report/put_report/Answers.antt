@@ -8,20 +8,20 @@ use Rattle.eg_play.proofs.HeadlineLemmas.{keep_headline}
 use Rattle.eg_play.proofs.PlayLemmas.{no_memory, no_lines, put, report_is}
 use Rattle.eg_play.proofs.report.put_report.Goals as goal
 
-pub returns-in_default-clause-plays : goal.returns-in_default-clause-plays
-returns-in_default-clause-plays g c =
+pub returns-in_default : goal.returns-in_default
+returns-in_default g c =
     let a = c.args in
     no_memory _ _ _ (g.K.Sink.shows a.out.now) (change a.steps.now c.run_all.new.steps) c.in_default.ensures.counted
     (keep_headline a.calibration.now c.rules-rules.ensures.accepted a.inputs.now c.requires)
 
-pub returns-in_default-report_lines-clause-plays : goal.returns-in_default-report_lines-clause-plays
-returns-in_default-report_lines-clause-plays g c =
+pub returns-in_default-report_lines : goal.returns-in_default-report_lines
+returns-in_default-report_lines g c =
     let a = c.args in
     no_lines _ _ _ (g.K.Sink.shows a.out.now) (change a.steps.now c.run_all.new.steps) c.in-Ok.ensures.counted
     (keep_headline a.calibration.now c.rules-rules.ensures.accepted a.inputs.now c.requires)
 
-pub returns-clause-plays : goal.returns-clause-plays
-returns-clause-plays g c =
+pub returns : goal.returns
+returns g c =
     let a = c.args in
     let out = change_of g.K.Sink.shows a.out.now c.put_lines.new.out in
     let text : concat (map string_bytes c.deref-2.result.now) ≡ report_text a.calibration.now a.inputs.now =

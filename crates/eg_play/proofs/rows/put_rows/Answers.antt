@@ -7,20 +7,20 @@ use Rattle.eg_play.proofs.HeadlineLemmas.{keep_headline}
 use Rattle.eg_play.proofs.PlayLemmas.{no_memory, no_lines, put, rows_are}
 use Rattle.eg_play.proofs.rows.put_rows.Goals as goal
 
-pub returns-in_default-clause-plays : goal.returns-in_default-clause-plays
-returns-in_default-clause-plays g c =
+pub returns-in_default : goal.returns-in_default
+returns-in_default g c =
     let a = c.args in
     no_memory _ _ _ (g.K.Sink.shows a.out.now) (change a.steps.now c.told_for.new.steps) c.in_default.ensures.counted
     (keep_headline a.calibration.now c.rules-rules.ensures.accepted a.inputs.now c.requires)
 
-pub returns-in_default-rows_text-clause-plays : goal.returns-in_default-rows_text-clause-plays
-returns-in_default-rows_text-clause-plays g c =
+pub returns-in_default-rows_text : goal.returns-in_default-rows_text
+returns-in_default-rows_text g c =
     let a = c.args in
     no_lines _ _ _ (g.K.Sink.shows a.out.now) (change a.steps.now c.told_for.new.steps) c.in-Ok.ensures.counted
     (keep_headline a.calibration.now c.rules-rules.ensures.accepted a.inputs.now c.requires)
 
-pub returns-clause-plays : goal.returns-clause-plays
-returns-clause-plays g c =
+pub returns : goal.returns
+returns g c =
     let a = c.args in
     let out = change_of g.K.Sink.shows a.out.now c.put_text.new.out in
     let text : c.deref-2.result.now ≡ rows_text a.columns a.calibration.now a.inputs.now =

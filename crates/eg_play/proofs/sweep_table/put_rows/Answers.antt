@@ -9,22 +9,22 @@ use Rattle.eg_play.proofs.PlayLemmas.{no_memory, no_lines, put}
 use Rattle.eg_play.proofs.SweepLemmas.{all-playable}
 use Rattle.eg_play.proofs.sweep_table.put_rows.Goals as goal
 
-pub returns-in_default-clause-plays : goal.returns-in_default-clause-plays
-returns-in_default-clause-plays g c =
+pub returns-in_default : goal.returns-in_default
+returns-in_default g c =
     let a = c.args in
     no_memory _ _ _ (g.K.Sink.shows a.out.now) (change a.steps.now c.facts_under.new.steps) c.in_default.ensures.counted
     (keep_headline a.calibration.now c.rules-rules.ensures.accepted (inputs_under a.input.now a.faults.now)
     (all-playable a.input.now a.faults.now c.requires.playable c.requires.valid))
 
-pub returns-in_default-sweep_text-clause-plays : goal.returns-in_default-sweep_text-clause-plays
-returns-in_default-sweep_text-clause-plays g c =
+pub returns-in_default-sweep_text : goal.returns-in_default-sweep_text
+returns-in_default-sweep_text g c =
     let a = c.args in
     no_lines _ _ _ (g.K.Sink.shows a.out.now) (change a.steps.now c.facts_under.new.steps) c.in-Ok.ensures.counted
     (keep_headline a.calibration.now c.rules-rules.ensures.accepted (inputs_under a.input.now a.faults.now)
     (all-playable a.input.now a.faults.now c.requires.playable c.requires.valid))
 
-pub returns-clause-plays : goal.returns-clause-plays
-returns-clause-plays g c =
+pub returns : goal.returns
+returns g c =
     let a = c.args in
     let out = change_of g.K.Sink.shows a.out.now c.put_text.new.out in
     let text : c.deref-2.result.now ≡ sweep_text_of (table_of a.faults.now (map (facts_by a.calibration.now) (inputs_under a.input.now a.faults.now))) =
