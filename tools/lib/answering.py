@@ -1,22 +1,9 @@
 """The right answers of a calibration, worked out by the program and by the tools, and put into its text."""
 
-import os
-import tempfile
-
-from lib.files import room_in
-from lib.program import printed_by
+from lib.program import printed_of
 from lib.putting import parsed, with_questions
 from lib.questions import answer_of
 from lib.tool import fail
-
-
-def printed_of(command, *words, text):
-    """What a command prints of a calibration file that has this text."""
-    with room_in(tempfile.gettempdir()) as folder:
-        name = os.path.join(folder, "calibration.toml")
-        with open(name, "wb") as file:
-            file.write(text.encode())
-        return printed_by(command, *words, name)
 
 
 def with_answers(name, text, printed=None):

@@ -4,8 +4,9 @@ import os
 import shlex
 import subprocess
 import sys
+import tempfile
 
-from lib.files import TOOLS, TOP, read, sum_of
+from lib.files import TOOLS, TOP, read, room_in, sum_of
 from lib.tool import TOOL, as_noted, fail
 
 SHOWN = {"calls": False}  # whether each call of the program is shown
@@ -81,15 +82,27 @@ def own_warning(place):
             "is built with the sources, and not of this one.")
 
 
-def printed_by(*words, readings=None):
-    """What a command of the program prints, with this file on standard input. If it is refused, its note is told."""
+def printed_by(*words, readings=None, shown=None):
+    """What a command of the program prints, with this file on standard input. If it is refused, its note is told, where
+    `shown` may have other names for those that the program was given."""
     show_call(words, readings)
-    given = read(readings) if readings else b""
+    given, shown = read(readings) if readings else b"", shown or {}
     done = subprocess.run([program(), *words], input=given, capture_output=True, check=False)
     if done.returncode:
-        note = done.stderr.decode(errors="replace").strip().replace("standard input", readings or "standard input")
+        note = done.stderr.decode(errors="replace").strip()
+        for name, other in {**shown, **({"standard input": readings} if readings else {})}.items():
+            note = note.replace(name, other)
         fail(f"egasim {words[0]}: {note or f'status {done.returncode}'}")
     return done.stdout.decode()
+
+
+def printed_of(command, *words, text, name="calibration.toml"):
+    """What a command prints of a file that has this text; it is told by this name."""
+    with room_in(tempfile.gettempdir()) as folder:
+        path = os.path.join(folder, "file")
+        with open(path, "wb") as file:
+            file.write(text.encode())
+        return printed_by(command, *words, path, shown={path: name})
 
 
 def show_call(words, readings=None):
