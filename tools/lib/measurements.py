@@ -23,13 +23,17 @@ class Measurement:
 
     def __init__(self, name, form, channels):
         self.name, self.form = name, form
-        self.text, self.encoding = decoded(name, read(name), form.encoding)
+        self.content = read(name)
+        self.encoding = encoding_of(name, self.content, form.encoding)
         self.delimiter, self.names = self.found(list(dict.fromkeys(channels)))
         self.decimal, self.rows_of_units = form.decimal, 0
 
     def lines(self, delimiter, most=None):
         """The lines of the file, as CSV has them: (number, cells)."""
-        rows = csv.reader(io.StringIO(self.text, newline=""), delimiter=delimiter)
+        text = io.TextIOWrapper(io.BytesIO(self.content), self.encoding, newline="")
+        if text.read(1) != "\ufeff":
+            text.seek(0)
+        rows = csv.reader(text, delimiter=delimiter)
         try:
             for row in rows:
                 yield rows.line_num, row
@@ -113,13 +117,14 @@ class Measurement:
         return time if abs(time) < MOST_TIME else fail(f"{self.name}: line {line}: {channel} has {text}, which is no time")
 
 
-def decoded(name, content, encoding):
-    """The text of a file, and its encoding: what was said, what a byte order mark says, UTF-8, or else Latin-1."""
+def encoding_of(name, content, encoding):
+    """How a file is encoded: what was said, what a byte order mark says, UTF-8, or else Latin-1."""
     marks = {codecs.BOM_UTF16_LE: "utf-16", codecs.BOM_UTF16_BE: "utf-16"}
     tried = [encoding] if encoding else [marks.get(content[:2], "utf-8"), "latin-1"]
     for one in tried:
         try:
-            return content.decode(one).removeprefix("\ufeff"), one
+            content.decode(one)
+            return one
         except UnicodeDecodeError:
             continue
     return fail(f"{name} isn't {tried[0].upper()}")

@@ -5,6 +5,15 @@ import xml.etree.ElementTree
 from drawings import SVG, Scale, need, pairs
 
 EDGE, SHORT = 0.6, 20  # points: how far from a frame something still stands at it; how long the line of a mark is
+TICK = 2.5  # ms of a tick, where pictures tell units
+
+
+def number_of(words):
+    """The number at a mark. Behind a tick may stand its time, in ms or s."""
+    number, _, time = words.partition(" (")
+    times = [float(number) * TICK, float(number) * TICK / 1000]
+    need(not time or any(abs(float(time.rstrip(")")) - one) < 1e-9 for one in times), f"{words} isn't the time of this tick")
+    return float(number)
 
 
 def text_of(group):
@@ -33,11 +42,11 @@ class Panel:
                 yield begin[along], words
 
     def scale(self, side):
-        return Scale([(place, float(words)) for place, words in self.at(side)])
+        return Scale([(place, number_of(words)) for place, words in self.at(side)])
 
     def heights(self):
         """The axis that goes up. Places count downwards there."""
-        marks = sorted((-place, float(words)) for place, words in self.at("left"))
+        marks = sorted((-place, number_of(words)) for place, words in self.at("left"))
         scale = Scale(marks)
         return lambda number: -scale.of(number)
 
