@@ -1,0 +1,98 @@
+"""An engine that is an FMU: what the file that joins it says, and its steps."""
+
+from lib.descriptions import unpacked
+from lib.fmi import VALUES
+from lib.joints import INPUTS, MOST, Joint, exact, variable_at
+from lib.toml import toml_of
+from lib.tool import fail
+from lib.traces import COLUMNS, drive_of
+
+KEYS = {"fmu": str, "drive": str, "tick": (int, float), "resets": bool, "kt": int, "inputs": dict, "outputs": dict, "start": dict}
+NEEDED = ("fmu", "drive", "tick", "inputs", "outputs")
+
+
+def commands(drive, told):
+    """Throttle, ignition, whether the stages are on, and where a fault holds the plate, or None: what the FMU is given at
+    a tick of this row, by the line that tells what is commanded."""
+    held = None if told["next_held"] == "-" else int(told["next_held"])
+    is_on = told["next_on"] == "1" and not drive[COLUMNS.index("reset")]
+    throttle, ignition = (min(1000, int(told[f"next_{name}"])) if is_on else 0 for name in ("throttle", "ignition"))
+    return throttle if held is None else held, ignition, is_on, held
+
+
+class Engine:
+    """What a file joins: the FMU's description, the drive, and the joints of inputs and outputs."""
+
+    def __init__(self, name, room):
+        held = checked(name)
+        self.drive, self.description = drive_of(held["drive"]), unpacked(held["fmu"], room)
+        self.tick, self.resets, self.kt = exact(name, held["tick"]), held.get("resets", True), held.get("kt")
+        variables = self.description.variables
+        self.inputs, self.outputs = (
+            {column: Joint(f"{name}: {key}.{column}", column, told, variables) for column, told in held[key].items()}
+            for key in ("inputs", "outputs"))
+        self.start = [(variable_at(f"{name}: start", variable, variables), value)
+                      for variable, value in held.get("start", {}).items()]
+        self.steps = 0
+        self.refuse(name)
+
+    def refuse(self, name):
+        """Ends if something isn't given a value, or shown, or isn't what it has to be."""
+        if not self.tick > 0:
+            fail(f"{name}: tick has to be above 0")
+        for column in [*self.inputs, *self.outputs]:
+            if column not in (INPUTS if column in self.inputs else MOST):
+                fail(f"{name}: no input {column}" if column in self.inputs else f"{name}: no output {column}")
+        loads = {"load", "load1", "load2"} & set(self.outputs)
+        if not {"position", "torque"} <= set(self.outputs) or loads not in ({"load"}, {"load1", "load2"}, set()):
+            fail(f"{name}: the outputs are position, torque, and load, or load1 and load2")
+        if bool(loads) == (self.kt is not None) or self.kt is not None and self.kt < 1:
+            fail(f"{name}: either an output load, or kt, above 0, is needed")
+        for joint in self.inputs.values():
+            if joint.variable.causality != "input":
+                fail(f"{joint.place}: {joint.variable.name} is no input of the FMU, but of the kind {joint.variable.causality}")
+        for variable, value in self.start:
+            if type(value) not in {"Real": (int, float), "Integer": (int,), "Boolean": (bool,)}[variable.kind]:
+                fail(f"{name}: start: {variable.name} has to be of the kind {variable.kind}")
+        given = {joint.variable.name for joint in self.inputs.values()} | {variable.name for variable, _ in self.start}
+        for variable in self.description.variables.values():
+            if variable.causality == "input" and variable.kind in VALUES and variable.name not in given:
+                fail(f"{name}: the FMU's input {variable.name} stands neither in [inputs] nor in [start]")
+
+    def begin(self, instance):
+        instance.begin(self.start)
+
+    def step(self, instance, tick, drive, throttle, ignition, is_on, held):
+        """One tick. Answers the position, both loads and the torque."""
+        if self.resets and drive[COLUMNS.index("reset")] and self.steps:
+            instance.reset()
+            self.begin(instance)
+            self.steps = 0
+        given = dict(zip(INPUTS, [*drive, throttle, ignition, int(is_on)]))
+        instance.set([(joint.variable, joint.given(given[column])) for column, joint in self.inputs.items()])
+        instance.step(float(self.steps * self.tick), float(self.tick))
+        self.steps += 1
+        values = instance.get([joint.variable for joint in self.outputs.values()])
+        shown = {column: joint.shown(tick, values[joint.variable.name]) for column, joint in self.outputs.items()}
+        if self.kt is not None:
+            shown["load"] = -(-shown["torque"] * 1000 // self.kt)
+        loads = [shown.get(track, shown.get("load")) for track in ("load1", "load2")]
+        return shown["position"] if held is None else held, *loads, shown["torque"]
+
+    def notes(self):
+        """What was clipped."""
+        for column, joint in self.outputs.items():
+            if joint.clipped:
+                yield f"{column} was out of range at {joint.clipped} ticks, first at tick {joint.first}, and counted as in range"
+
+
+def checked(name):
+    """What a file that joins an FMU holds, with its keys looked at."""
+    held = toml_of(name)
+    for key, value in held.items():
+        if key not in KEYS or not isinstance(value, KEYS[key]) or KEYS[key] is not bool and isinstance(value, bool):
+            fail(f"{name}: {key} isn't one of {', '.join(KEYS)}, or holds something else")
+    for key in NEEDED:
+        if key not in held:
+            fail(f"{name}: {key} is missing")
+    return held

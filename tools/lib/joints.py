@@ -1,0 +1,65 @@
+"""How the columns of a partner's lines are joined to the variables of an FMU: names, units, factors and rounding."""
+
+import math
+from fractions import Fraction
+
+from lib.fmi import VALUES
+from lib.tool import fail
+
+# What the FMU may be given at a tick, and what it has to show: each output's greatest number, and how it is rounded.
+INPUTS = ("pedal", "speed", "raise", "reset", "brake", "throttle", "ignition", "on")
+MOST = {"position": 1000, "load": 65535, "load1": 65535, "load2": 65535, "torque": 65535}
+ROUNDED = {"position": round, "load": math.ceil, "load1": math.ceil, "load2": math.ceil, "torque": math.floor}
+DIGITS = 6  # a value that lies this near to a whole number is that: 4.1 % are 41 per mille
+KEYS = {"name": str, "unit": str, "factor": (int, float), "offset": (int, float), "clip": bool}
+
+
+class Joint:
+    """A column and its variable. An input has the column's number times the factor, and the offset; an output's number is
+    the variable's value times the factor, and the offset."""
+
+    def __init__(self, place, column, told, variables):
+        self.place, self.column = place, column
+        if not isinstance(told, dict) or not isinstance(told.get("name"), str):
+            fail(f"{place}: a table with the variable's name is wanted: {{ name = \"..\" }}")
+        for key, value in told.items():
+            if key not in KEYS or not isinstance(value, KEYS[key]) or KEYS[key] is not bool and isinstance(value, bool):
+                fail(f"{place}: {key} isn't one of {', '.join(KEYS)}, or holds something else")
+        self.variable, self.is_clipped = variable_at(place, told["name"], variables), told.get("clip", False)
+        self.clipped, self.first = 0, None
+        self.factor, self.offset = (exact(place, told.get(key, number)) for key, number in (("factor", 1), ("offset", 0)))
+        if "unit" in told and told["unit"] != self.variable.unit:
+            fail(f"{place}: {told['name']} is in {self.variable.unit or 'no unit'} by the FMU, and not in {told['unit']}")
+
+    def given(self, number):
+        """The value of an input at a tick."""
+        value = number * self.factor + self.offset
+        if self.variable.kind == "Boolean":
+            return int(value != 0)
+        return float(value) if self.variable.kind == "Real" else round(value)
+
+    def shown(self, tick, value):
+        """The number of an output at a tick."""
+        if not math.isfinite(value):
+            fail(f"tick {tick}: {self.variable.name} is {value}")
+        number = ROUNDED[self.column](round(Fraction(value) * self.factor + self.offset, DIGITS))
+        within = max(0, min(MOST[self.column], number))
+        if within != number and not self.is_clipped:
+            fail(f"tick {tick}: {self.column} is {number}, by {self.variable.name} = {value}; it may be 0 to {MOST[self.column]}")
+        if within != number:
+            self.clipped, self.first = self.clipped + 1, tick if self.first is None else self.first
+        return within
+
+
+def variable_at(place, name, variables):
+    """The variable of this name, if it holds a number."""
+    if name not in variables:
+        fail(f"{place}: the FMU has no variable {name}")
+    if variables[name].kind not in VALUES:
+        fail(f"{place}: {name} is of the kind {variables[name].kind}, which is none of {', '.join(VALUES)}")
+    return variables[name]
+
+
+def exact(place, number):
+    """A number as it was written: 0.1 is a tenth."""
+    return Fraction(str(number)) if math.isfinite(number) else fail(f"{place}: {number} is no number to count with")
