@@ -68,6 +68,17 @@ class Played:
         self.not_asked = [runs[0] for runs, is_left_out in groups if is_left_out]
         swept = [runs for runs, is_left_out in groups if not is_left_out]
         self.sweeps, self.left = [self.sweep(runs) for runs in swept[:MOST_SWEEPS]], max(0, len(swept) - MOST_SWEEPS)
+        self.coupled, self.replayed = {}, {}
+
+    def add_others(self, coupled, recordings):
+        """Takes records of coupled runs, and what level 2 finds in recorded readings."""
+        for name in [*coupled, *recordings]:
+            self.add_sum(name)
+        self.coupled = {name: record_of(name, text_in(name, read(name)).splitlines()) for name in coupled}
+        for name, record in self.coupled.items():
+            if record["tick"][0]:
+                fail(f"{name} begins at tick {record['tick'][0]}; the whole record is needed")
+        self.replayed = {name: self.call("replay", given=name).splitlines() for name in recordings}
 
     def add_sum(self, name, path=None):
         content = read(path or name)
@@ -79,11 +90,12 @@ class Played:
             if sum_of(read(path)) != total:
                 fail(f"{name} changed meanwhile")
 
-    def call(self, command, *words):
-        """What a command prints. It is noted with the checksum of that."""
+    def call(self, command, *words, given=None):
+        """What a command prints, with a file as standard input if one is given. It is noted with the checksum of that."""
         calibration = ["--cal", self.calibration] if self.calibration else []
-        text = printed_by(command, *calibration, *words)
-        self.commands.append((shlex.join(["egasim", command, *calibration, *words]), sum_of(text.encode())))
+        text = printed_by(command, *calibration, *words, readings=given)
+        called = shlex.join(["egasim", command, *calibration, *words]) + (f" <{shlex.quote(given)}" if given else "")
+        self.commands.append((called, sum_of(text.encode())))
         return text
 
     def table(self, *words):

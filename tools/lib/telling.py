@@ -20,18 +20,21 @@ MOST_EVENTS, MOST_MARKS, MOST_CUTS = 30, 12, 12
 FOLDED = ("Files and texts", "Recorded readings", "Coupled runs")  # claims that a page tells in one line
 CLAIM = re.compile(r"^\| (\d+)\. ", re.M)
 PARTS = [("limits", "Limits of the calibration"), ("table", "Runs"), ("margins", "Margins"),
-         ("sweeps", "Every class of fault"), ("pictures", "Pictures of the runs"), ("assumptions", "Assumptions"),
+         ("sweeps", "Every class of fault"), ("pictures", "Pictures of the runs"),
+         ("others", "Coupled runs and recordings"), ("assumptions", "Assumptions"),
          ("claims", "What is proved"), ("not-claimed", "What isn't claimed"), ("provenance", "What this page was made from")]
 
 
 def parts(played, asked):
-    tellers = (limits, rows, margins, sweeps, pictures, assumptions, claims, not_claimed, provenance)
+    tellers = (limits, rows, margins, sweeps, pictures, others, assumptions, claims, not_claimed, provenance)
+    told = [(*part, teller) for part, teller in zip(PARTS, tellers)
+            if teller is not others or played.coupled or played.replayed]
     yield from about(played, asked)
     yield from verdict(played, asked)
     yield from warnings(played)
     yield from summary(played)
-    yield "<nav><ul>" + "".join(f'<li><a href="#{name}">{shown(title)}</a></li>' for name, title in PARTS) + "</ul></nav>"
-    for (name, title), teller in zip(PARTS, tellers):
+    yield "<nav><ul>" + "".join(f'<li><a href="#{name}">{shown(title)}</a></li>' for name, title, _ in told) + "</ul></nav>"
+    for name, title, teller in told:
         yield from section(name, title, teller(played))
 
 
@@ -214,6 +217,25 @@ def pictures(played):
         yield "</div>"
 
 
+def others(played):
+    """Records of coupled runs, and what level 2 finds in recorded readings."""
+    yield paragraph("These were made elsewhere, and have no share in the verdict. A record doesn't say when the unit is reset, so "
+                    "no confirmed excess is marked. A replay is that of level 2 alone, by this page's calibration.")
+    for place, (name, record) in enumerate(played.coupled.items()):
+        marks = marks_of(record, [])
+        yield f'<div class="run"><h3>{shown(name)}</h3>\n<div class="parts">'
+        yield from run_figure(f"coupled{place}", f"Coupled run {name}", record, played.threshold, marks, played.units)
+        yield "<div>"
+        yield from event_table(record, played.threshold, events(record, played.threshold, []), played.units)
+        yield "</div>\n</div>"
+        yield from cut_figures(f"coupled{place}", name, record, played.threshold, marks,
+                               windows(record, played.threshold, cuts_of(record, [])), played.units, "Coupled run")
+        yield "</div>"
+    for name, lines in played.replayed.items():
+        yield f"<h3>{shown(name)}</h3>"
+        yield from table("replay: what level 2 finds", ("of", "what"), [line.split(" ", 1) for line in lines], "data")
+
+
 def run_figure(place, title, record, threshold, marks, units=Units()):
     drawn = most_marks(marks)
     yield "<figure>"
@@ -224,7 +246,7 @@ def run_figure(place, title, record, threshold, marks, units=Units()):
     yield "</figure>"
 
 
-def cut_figures(place, name, record, threshold, marks, around, units=Units()):
+def cut_figures(place, name, record, threshold, marks, around, units=Units(), kind="Run"):
     """The ticks around each cut, and around each confirmed excess, where the picture of the whole run is much coarser."""
     shown_near = [(first, last) for first, last in around if 2 * (last + 1 - first) <= len(record["on"])]
     if not shown_near:
@@ -232,7 +254,7 @@ def cut_figures(place, name, record, threshold, marks, around, units=Units()):
     yield '<div class="cuts">'
     for number, (first, last) in enumerate(shown_near[:MOST_CUTS]):
         near = [(tick, words) for tick, words in marks if first <= tick <= last]
-        yield from run_figure(f"{place}-cut{number}", f"Run {name}, ticks {first} to {last}",
+        yield from run_figure(f"{place}-cut{number}", f"{kind} {name}, ticks {first} to {last}",
                               part_of(name, record, first, last), threshold, near, units)
     yield "</div>"
     if len(shown_near) > MOST_CUTS:

@@ -1,0 +1,75 @@
+"""Recorded readings of a coupled run: what the tracks read at each tick, under the run's fault too."""
+
+import os
+
+HEADER = "pedal1,pedal2,plate1,plate2,load1,load2,speed1,speed2,raise,check,brake1,brake2\n"
+TRACKS = (*range(8), 10, 11)  # the places of the tracks 0 to 9 in a line
+RAISE = 8
+ON_LEVEL_2 = ("skip", "disturb", "flip", "halt", "lapse")  # classes under which a replay doesn't tell what level 2 told
+
+
+def readings_of(answer, fault, tick):
+    """What is read at a tick of which these nine numbers were answered, under a fault or None."""
+    pedal, speed, demand, _, brake, position, load1, load2, _ = answer
+    read = [pedal, 1000 - pedal, position, 1000 - position, load1, load2, speed, speed, demand, 65535 - demand, brake, 1 - brake]
+    if not fault or tick < fault["onset"]:
+        return read
+    if fault["class"] == "script":
+        read[TRACKS[fault["track"]]] = fault["values"][(tick - fault["onset"]) % len(fault["values"])]
+    elif fault["class"] == "offset":
+        place = TRACKS[fault["track"]]
+        read[place] = max(0, min(65535, read[place] + fault["add"]))
+    elif fault["class"] == "bus":
+        read[RAISE] ^= fault["mask"]
+    return read
+
+
+class Spans:
+    """The drive spans of a run, by its rows: tick 0 and a passed test begin one, a reset ends it. A test is passed if no
+    path conducts at its tick `test`."""
+
+    def __init__(self, test):
+        self.test, self.begin, self.is_driven, self.has_passed = test, 0, True, False
+
+    def begins(self, tick, is_reset, conducts):
+        """Whether a drive span begins at this tick, the next one; `is_driven` then says whether it is of one."""
+        begins = tick == 0 and not is_reset or self.has_passed and not is_reset
+        if is_reset:
+            self.begin = tick
+        self.is_driven = begins or self.is_driven and not is_reset
+        self.has_passed = not self.is_driven and tick == self.begin + self.test and not conducts
+        return begins
+
+
+class Recording:
+    """The readings of each drive span, a file for each: NAME.csv, NAME-2.csv and so on."""
+
+    def __init__(self, name, fault, test):
+        self.name, self.fault, self.spans = name, fault, Spans(test)
+        self.ticks, self.texts = [], []
+
+    def add(self, tick, answer, row):
+        """Takes a tick: its answer, and the row that the unit made of it."""
+        if self.spans.begins(tick, answer[3] == 1, row["path1"] == "1" or row["path2"] == "1"):
+            self.ticks.append([tick, tick])
+            self.texts.append([HEADER])
+        if self.spans.is_driven:
+            self.ticks[-1][1] = tick
+            self.texts[-1].append(",".join(map(str, readings_of(answer, self.fault, tick))) + "\n")
+
+    def files(self):
+        """The name and the text of each file."""
+        root, ending = os.path.splitext(self.name)
+        names = [self.name, *(f"{root}-{number}{ending}" for number in range(2, len(self.texts) + 1))]
+        yield from zip(names, map("".join, self.texts))
+
+    def notes(self, ticks):
+        """What a file has, if that isn't each tick of the run; and from where on a replay may tell something else."""
+        for (name, _), (first, last) in zip(self.files(), self.ticks):
+            if (first, last) != (0, ticks - 1):
+                yield f"{name} has the ticks {first} to {last} of the run, a drive span"
+        if not self.texts:
+            yield f"{self.name} wasn't written: the run has no drive span"
+        if self.fault and self.fault["class"] in ON_LEVEL_2 and self.fault["onset"] < ticks:
+            yield (f"{self.fault['class']} touches level 2: from tick {self.fault['onset']} of the run on a replay may tell what "
+                   "level 2 doesn't")
