@@ -5,6 +5,5 @@ use Rattle.eg_outcome.specs.Changes.{change, change_of}
 use Rattle.eg_app.specs.Words.{command_of, word_bytes}
 use Rattle.eg_app.specs.Ends.{Completes, Ends, call}
 use Rattle.eg_app.specs.Unlined.{no_lines}
-use Rattle.eg_app.proofs.EndsLemmas.{ends_also}
-use Rattle.eg_app.proofs.LineLemmas.{none_shown}
+use Rattle.eg_app.proofs.EndsLemmas.{ends_also, none_shown}
 use Rattle.eg_app.proofs.call.egasim.Goals as goal

@@ -4,9 +4,8 @@ use Rattle.std.specs.Char.{is_ascii_digit}
 use Rattle.std.proofs.lemmas.Grind.{common_steps}
 use Rattle.std.proofs.lemmas.Slice.Eq.{bytes_eq-Decides}
 use Rattle.eg_input.specs.Fields.{decimal_value}
-use Rattle.eg_input.proofs.PlainLemmas.{decimal_value-more, digits-more}
 use Rattle.eg_asm.specs.Reading.{is_numeral, numeral_in}
-use Rattle.eg_asm.proofs.NumeralLemmas.{capped-more}
+use Rattle.eg_asm.proofs.NumeralLemmas.{decimal_value-more, digits-more, capped-more}
 use Rattle.eg_asm.proofs.numeral.numeral.Goals as goal
 
 pub returns-then-eq : goal.returns-then-eq
