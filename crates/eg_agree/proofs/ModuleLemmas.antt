@@ -7,7 +7,7 @@ use Rattle.eg_fault.specs.Effects.{Effects, asked_at}
 use Rattle.eg_level2.specs.Words.{Words}
 use Rattle.eg_level2.specs.Inputs.{row_of}
 use Rattle.eg_level2.specs.Modules.{check_step, given_up, pedal_step, permitted_step, actual_step, excess_step, pairs_step, debounce_step, react_step, module_step}
-use Rattle.eg_flow.specs.Ticks.{inputs_for, after_module, after_modules}
+use Rattle.eg_level2.specs.Ticks.{inputs_for, after_module, after_modules}
 use Rattle.eg_model.specs.History.{Setting, SpanKind}
 use Rattle.eg_agree.specs.Doings.{phase_at, doing_at}
 

@@ -16,12 +16,12 @@ use Rattle.eg_level2.specs.Modules.{number_of}
 use Rattle.eg_fault.specs.Effects.{Effects, asked_in, asked_at}
 use Rattle.eg_fault.specs.Faults.{effects}
 use Rattle.eg_fault.specs.Running.{RunsWhole}
-use Rattle.eg_flow.specs.Ticks.{Doing, answer_at}
-use Rattle.eg_flow.specs.Flow.{FitsWords, IsSteady, row_asked, expected_fold, expected_number}
-use Rattle.eg_flow.specs.Laws.{at_react}
-use Rattle.eg_flow.proofs.FlowSteps.{answer-is}
-use Rattle.eg_flow.proofs.SteadyLemmas.{steady_answers, gap_answers, all_told, out_told}
-use Rattle.eg_flow.proofs.RowLemmas.{fits_words}
+use Rattle.eg_level2.specs.Ticks.{Doing, answer_at}
+use Rattle.eg_level2.specs.Flow.{FitsWords, IsSteady, row_asked, expected_fold, expected_number}
+use Rattle.eg_level2.specs.FlowLaws.{at_react}
+use Rattle.eg_level2.proofs.FlowSteps.{answer-is}
+use Rattle.eg_level2.proofs.SteadyLemmas.{steady_answers, gap_answers, all_told, out_told}
+use Rattle.eg_level2.proofs.RowLemmas.{fits_words}
 use Rattle.eg_model.specs.History.{Setting, Entry, Tick, SpanKind, Moment}
 use Rattle.eg_model.specs.Signals.{tripped}
 use Rattle.eg_model.specs.Answers.{is_undisturbed, is_answer, whole_since_answer, is_sent, is_good}

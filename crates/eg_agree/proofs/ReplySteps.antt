@@ -7,12 +7,12 @@ use Rattle.eg_answer.specs.declared.marks.AnswerMark.TheVariants.{Absent, Good, 
 use Rattle.eg_level2.specs.Words.{Words, is_set, start}
 use Rattle.eg_level2.specs.Modules.{answers_now}
 use Rattle.eg_fault.specs.Effects.{sends_at}
-use Rattle.eg_flow.specs.Ticks.{Doing, after_tick, answer_at}
-use Rattle.eg_flow.specs.Flow as flow
-use Rattle.eg_flow.specs.Flow.{IsSteady}
-use Rattle.eg_flow.specs.Laws.{at_react}
-use Rattle.eg_flow.proofs.FlowSteps.{answers, flow-after, react_clears}
-use Rattle.eg_flow.proofs.SteadyLemmas.{steady_stays, start_steady}
+use Rattle.eg_level2.specs.Ticks.{Doing, after_tick, answer_at}
+use Rattle.eg_level2.specs.Flow as flow
+use Rattle.eg_level2.specs.Flow.{IsSteady}
+use Rattle.eg_level2.specs.FlowLaws.{at_react}
+use Rattle.eg_level2.proofs.FlowSteps.{answers, flow-after, react_clears}
+use Rattle.eg_level2.proofs.SteadyLemmas.{steady_stays, start_steady}
 use Rattle.eg_model.specs.History.{Setting, Tick, SpanKind, drives, Moment}
 use Rattle.eg_model.specs.Signals.{tripped}
 use Rattle.eg_model.specs.Answers.{is_whole, is_undisturbed, is_answer, whole_since_answer, is_sent, is_good}

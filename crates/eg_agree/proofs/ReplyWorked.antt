@@ -25,7 +25,7 @@ use Rattle.eg_fault.specs.Effects.{no_effects, readings_under, contacts_under, s
 use Rattle.eg_fault.specs.Faults.{is_left_out, effects_of, effects}
 use Rattle.eg_fault.specs.declared.class.Class.TheVariants.{Lapse, Skip, Disturb, Flip}
 use Rattle.eg_fault.specs.declared.class.Fault.{Fault}
-use Rattle.eg_flow.specs.Ticks.{inputs_for, after_module, after_modules, after_tick, answer_at, orders_at}
+use Rattle.eg_level2.specs.Ticks.{inputs_for, after_module, after_modules, after_tick, answer_at, orders_at}
 use Rattle.eg_model.specs.History.{Setting, Entry, Tick, SpanKind, Drive, Test, drives}
 use Rattle.eg_model.specs.Paths.{is_told_to_open}
 use Rattle.eg_model.specs.Moments.{is_braking, sensed_at, readings_at}

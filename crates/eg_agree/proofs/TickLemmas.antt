@@ -10,7 +10,7 @@ use Rattle.eg_fault.specs.Classes.{ChecksFlips}
 use Rattle.eg_level2.specs.declared.phase.Phase.{Phase}
 use Rattle.eg_level2.specs.Words.{Words, is_set}
 use Rattle.eg_level2.specs.Modules.{debounced, no_watches, opens_now, answers_now, answer_of, number_of, debounce_step, react_step}
-use Rattle.eg_flow.specs.Ticks.{Doing, after_modules, after_tick, answer_at, orders_at, finds_at}
+use Rattle.eg_level2.specs.Ticks.{Doing, after_modules, after_tick, answer_at, orders_at, finds_at}
 use Rattle.eg_model.specs.History.{Setting, Entry, SpanKind, Signals, Moment}
 use Rattle.eg_model.specs.Signals.{tripped, last_signals, signal, signals_at}
 use Rattle.eg_model.specs.Answers.{is_answer, is_sent}

@@ -3,7 +3,7 @@ use Rattle.std.proofs.Common.{◌≡◌, ℕ, ◌+◌, Bool, true, false, List, 
 use Rattle.std.specs.Prelude.{if◌then◌else◌, ◌==◌}
 use Rattle.eg_level2.specs.Words.{Words, start}
 use Rattle.eg_level2.specs.Modules.{check_step, given_up, pedal_step, permitted_step, actual_step, excess_step, pairs_step, debounce_step, react_step, module_step}
-use Rattle.eg_flow.specs.Ticks.{Doing, inputs_for, after_module, after_modules, after_tick}
+use Rattle.eg_level2.specs.Ticks.{Doing, inputs_for, after_module, after_modules, after_tick}
 use Rattle.eg_model.specs.History.{Setting, Tick, SpanKind}
 use Rattle.eg_model.specs.Moments.{moments_in}
 use Rattle.eg_model.specs.Premises.{Follows}

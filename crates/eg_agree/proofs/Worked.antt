@@ -11,7 +11,7 @@ use Rattle.eg_fault.specs.Effects.{Effects, no_effects}
 use Rattle.eg_level2.specs.Words.{Words, is_set, start}
 use Rattle.eg_level2.specs.Phases.{feeds, sends, orders}
 use Rattle.eg_level2.specs.Modules as module_of
-use Rattle.eg_flow.specs.Ticks.{inputs_for, after_module, after_modules, after_tick}
+use Rattle.eg_level2.specs.Ticks.{inputs_for, after_module, after_modules, after_tick}
 use Rattle.eg_model.specs.Detection.{pedal_bit, load_bit}
 use Rattle.eg_model.specs.History.{Setting, Tick, SpanKind, Drive, Test}
 use Rattle.eg_model.specs.Moments.{readings_at, moments_in}

@@ -7,7 +7,7 @@ use Rattle.eg_values.specs.Calibration.{IsAccepted}
 use Rattle.eg_model.specs.History.{Setting, Tick, SpanKind}
 use Rattle.eg_model.specs.Premises.{Follows}
 use Rattle.eg_level2.specs.Words.{Words}
-use Rattle.eg_flow.specs.Ticks.{after_tick, answer_at}
+use Rattle.eg_level2.specs.Ticks.{after_tick, answer_at}
 use Rattle.eg_model.specs.Answers.{whole_since_answer}
 use Rattle.eg_model.specs.Moments.{moments_in}
 use Rattle.eg_agree.specs.Standing.{KeepsWords}

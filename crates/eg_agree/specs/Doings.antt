@@ -6,7 +6,7 @@ use Rattle.eg_answer.specs.Times.{TimeParts}
 use Rattle.eg_fault.specs.Effects.{Effects, sends_at, asked_at}
 use Rattle.eg_level2.specs.declared.phase.Phase.{Phase}
 use Rattle.eg_level2.specs.declared.phase.Phase.TheVariants.{Quiet, Send, Test, TestOrder}
-use Rattle.eg_flow.specs.Ticks.{Doing}
+use Rattle.eg_level2.specs.Ticks.{Doing}
 use Rattle.eg_model.specs.History.{SpanKind, drives, Setting}
 use Rattle.eg_model.specs.Paths.{is_told_to_open}
 

@@ -13,9 +13,9 @@ use Rattle.eg_values.specs.Calibration.{IsAccepted}
 use Rattle.eg_level2.specs.Words.{Words, is_set, start}
 use Rattle.eg_fault.specs.Effects.{Effects, asked_at}
 use Rattle.eg_fault.specs.Faults.{IsNoneOrValid}
-use Rattle.eg_flow.specs.Ticks.{Doing, after_tick, answer_at}
-use Rattle.eg_flow.specs.Flow.{IsSteady}
-use Rattle.eg_flow.specs.Laws.{at_react}
+use Rattle.eg_level2.specs.Ticks.{Doing, after_tick, answer_at}
+use Rattle.eg_level2.specs.Flow.{IsSteady}
+use Rattle.eg_level2.specs.FlowLaws.{at_react}
 use Rattle.eg_model.specs.History.{Setting, Tick, SpanKind, Moment}
 use Rattle.eg_model.specs.Signals.{tripped}
 use Rattle.eg_model.specs.Answers.{is_answer, whole_since_answer}

@@ -6,7 +6,7 @@ use Rattle.eg_values.specs.Calibration.{IsAccepted}
 use Rattle.eg_fault.specs.Effects.{Effects}
 use Rattle.eg_fault.specs.Classes.{ChecksFlips}
 use Rattle.eg_level2.specs.Words.{Words, AreWithin, is_set, start}
-use Rattle.eg_flow.specs.Ticks.{Doing, after_modules, after_tick, answer_at, orders_at, finds_at}
+use Rattle.eg_level2.specs.Ticks.{Doing, after_modules, after_tick, answer_at, orders_at, finds_at}
 use Rattle.eg_model.specs.History.{Setting, Entry, Tick, SpanKind, Moment}
 use Rattle.eg_model.specs.Signals.{tripped, last_signals}
 use Rattle.eg_model.specs.Answers.{is_answer}

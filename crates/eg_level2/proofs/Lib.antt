@@ -8,4 +8,10 @@ pub mod ModuleLemmas
 pub mod DebounceLemmas
 pub mod ResultLemmas
 pub mod StepLemmas
+pub mod TickSteps
+pub mod FlowSteps
+pub mod FoldSteps
+pub mod SteadyLemmas
+pub mod RowLemmas
 pub mod Worked
+mod WorkedFlow

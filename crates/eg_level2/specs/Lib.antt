@@ -5,4 +5,7 @@ pub mod Modules
 pub mod Stores
 pub mod Order
 pub mod Runs
+pub mod Ticks
+pub mod Flow
+pub mod FlowLaws
 pub use Rattle.eg_guard.specs.Memory

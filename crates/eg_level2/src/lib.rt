@@ -9,6 +9,7 @@
 
 mod check;
 mod debounce;
+mod flow;
 mod level2;
 mod lookup;
 mod phase;
@@ -20,6 +21,10 @@ mod step;
 mod words;
 
 pub use eg_num::Watches;
+pub use flow::{
+    answers_tell_gaps, flows_tell_gaps, folds_tell_disturbances, numbers_tell_both,
+    tokens_tell_gaps, words_stay_steady,
+};
 pub use level2::{Level2, one_changed_word_is_found};
 pub use lookup::{Lookup, Prepared};
 pub use phase::Phase;

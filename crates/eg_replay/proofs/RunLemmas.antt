@@ -10,7 +10,7 @@ use Rattle.eg_level2.specs.Inputs.{Level2Parts, inputs_of, readings_of, asked_of
 use Rattle.eg_level2.specs.Modules.{module_step, found_by, debounced}
 use Rattle.eg_level2.specs.Phases.{feeds}
 use Rattle.eg_level2.specs.declared.phase.Phase.TheVariants.{Quiet, Send}
-use Rattle.eg_flow.specs.Ticks.{Doing, inputs_for, after_modules, after_tick, finds_at}
+use Rattle.eg_level2.specs.Ticks.{Doing, inputs_for, after_modules, after_tick, finds_at}
 use Rattle.eg_values.specs.Calibration.{CalibrationParts, IsAccepted}
 use Rattle.eg_fault.specs.Effects.{no_effects, readings_under, contacts_under, sends_at}
 use Rattle.eg_fault.specs.Classes.{ChecksFlips}

@@ -11,7 +11,7 @@ use Rattle.eg_level2.specs.Phases.{feeds}
 use Rattle.eg_level2.specs.Words.{Words, is_set}
 use Rattle.eg_level2.specs.Inputs.{Inputs}
 use Rattle.eg_level2.specs.Modules.{check_step, written, pedal_step, permitted_step, actual_step, excess_step, pairs_step, pedal_bit, plate_bit, load_bit, speed_bit, torque_bit, feeds_now, counted, is_found, debounced, limits, trips, debounce_step, react_step, module_step, given_up, no_watches}
-use Rattle.eg_flow.specs.Ticks.{Doing, inputs_for, after_module, after_modules, after_tick, finds_at}
+use Rattle.eg_level2.specs.Ticks.{Doing, inputs_for, after_module, after_modules, after_tick, finds_at}
 use Rattle.eg_num.specs.declared.watches.Watches.{Watches}
 use Rattle.eg_model.specs.History.{Setting, Moment}
 use Rattle.eg_agree.specs.Standing.{signals_of, KeepsWords}

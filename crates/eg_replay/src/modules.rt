@@ -6,7 +6,7 @@ ghost use Rattle.eg_guard.specs.Memory.{AreWords};
 ghost use Rattle.eg_level2.specs.Words.{Words, words_of, AreMirrored, AreWithin};
 ghost use Rattle.eg_level2.specs.Inputs.{IsPrepared, readings_of, asked_of};
 ghost use Rattle.eg_level2.specs.Modules.{found_by};
-ghost use Rattle.eg_flow.specs.Ticks.{after_modules, after_tick, finds_at, inputs_for};
+ghost use Rattle.eg_level2.specs.Ticks.{after_modules, after_tick, finds_at, inputs_for};
 ghost use Rattle.eg_tick.specs.Board.{by_tracks};
 ghost use Rattle.eg_replay.specs.Running.{meeting, HasRun};
 

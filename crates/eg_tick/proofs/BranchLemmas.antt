@@ -7,7 +7,7 @@ use Rattle.eg_guard.specs.Memory.{ShownMemory, AreWords}
 use Rattle.eg_fault.specs.Faults.{IsNoneOrValid}
 use Rattle.eg_fault.specs.declared.class.Fault.{Fault}
 use Rattle.eg_level2.specs.Words.{Words}
-use Rattle.eg_flow.specs.Ticks.{after_tick}
+use Rattle.eg_level2.specs.Ticks.{after_tick}
 use Rattle.eg_module.specs.Monitoring.{MonitorParts, HasGiven}
 use Rattle.eg_model.specs.History.{Setting, Entry, Tick, SpanKind, Moment}
 use Rattle.eg_model.specs.Answers.{answers_in, verdicts_in, whole_since_answer}

@@ -9,7 +9,7 @@ use Rattle.eg_level2.specs.declared.step.Step.{Step}
 use Rattle.eg_level2.specs.Words.{Words, words_of, AreMirrored, is_level2_own}
 use Rattle.eg_level2.specs.Inputs.{Level2Parts, Inputs}
 use Rattle.eg_level2.specs.Modules.{answer_after, order_after, given_up, finding, mirror_alone}
-use Rattle.eg_flow.specs.Ticks.{after_module}
+use Rattle.eg_level2.specs.Ticks.{after_module}
 use Rattle.eg_fault.proofs.ClassLemmas.{faults_check_flips}
 use Rattle.eg_tick.specs.declared.working.Task.{Task}
 use Rattle.eg_tick.specs.Midway.{Work, IsMidway, Meets, step_at}

@@ -11,7 +11,7 @@ use Rattle.eg_level2.specs.declared.step.Step.{Step}
 use Rattle.eg_level2.specs.Words.{words_of, AreMirrored, is_level2_own}
 use Rattle.eg_level2.specs.Inputs.{Level2Parts, Inputs, inputs_of}
 use Rattle.eg_level2.specs.Modules.{module_step, step_of, answer_after, order_after, found_by, quiet_step, given_up, finding, mirror_alone}
-use Rattle.eg_flow.specs.Ticks.{inputs_for, after_module, after_modules}
+use Rattle.eg_level2.specs.Ticks.{inputs_for, after_module, after_modules}
 use Rattle.eg_tick.specs.declared.working.Task.{Task}
 use Rattle.eg_tick.specs.Midway.{Work, IsSet, IsMidway, Meets, step_at}
 use Rattle.eg_tick.proofs.MidwayLemmas.{slice-midway, module-midway}

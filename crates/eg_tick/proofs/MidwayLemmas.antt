@@ -10,7 +10,7 @@ use Rattle.eg_word.specs.World.{View, World, world_of, Shows}
 use Rattle.eg_host.specs.Slices.{world_slice}
 use Rattle.eg_level2.specs.Words.{Words, word_at, address_of, named, words_of, AreMirrored, is_level2_own}
 use Rattle.eg_level2.specs.Inputs.{readings_of}
-use Rattle.eg_flow.specs.Ticks.{Doing, after_module, after_modules, after_tick}
+use Rattle.eg_level2.specs.Ticks.{Doing, after_module, after_modules, after_tick}
 use Rattle.eg_model.specs.Level1.{ports_of, slices_from}
 use Rattle.eg_model.specs.Rows.{signal_list}
 use Rattle.eg_agree.specs.Standing.{signals_of}

@@ -6,7 +6,7 @@ use Rattle.eg_word.specs.World.{View, World, world_of}
 use Rattle.eg_host.specs.Slices.{world_slice}
 use Rattle.eg_values.specs.Calibration.{IsAccepted}
 use Rattle.eg_level2.specs.Words.{Words, AreMirrored, words_of}
-use Rattle.eg_flow.specs.Ticks.{after_modules}
+use Rattle.eg_level2.specs.Ticks.{after_modules}
 use Rattle.eg_model.specs.History.{Setting, Tick, SpanKind, Moment}
 use Rattle.eg_model.specs.Signals.{last_signals}
 use Rattle.eg_model.specs.Premises.{Follows}

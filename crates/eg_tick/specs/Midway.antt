@@ -15,7 +15,7 @@ use Rattle.eg_level2.specs.Words.{Words, AreMirrored, AreWithin, words_of}
 use Rattle.eg_level2.specs.Inputs.{Level2Parts, IsPrepared, readings_of, asked_of}
 use Rattle.eg_level2.specs.declared.step.Step.{Step}
 use Rattle.eg_level2.specs.Modules.{step_of, finding, mirror_alone, quiet_step}
-use Rattle.eg_flow.specs.Ticks.{Doing, inputs_for, after_modules, answer_at, orders_at, finds_at}
+use Rattle.eg_level2.specs.Ticks.{Doing, inputs_for, after_modules, answer_at, orders_at, finds_at}
 use Rattle.eg_fault.specs.Effects.{Effects}
 use Rattle.eg_model.specs.History.{Setting, Tick, SpanKind}
 use Rattle.eg_model.specs.Level1.{last_world, ports_of, slices_from}

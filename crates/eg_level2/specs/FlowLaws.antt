@@ -8,8 +8,8 @@ use Rattle.eg_answer.specs.Modules.{modules_before_react, AllRun, NoneRuns, Othe
 use Rattle.eg_answer.specs.Token.{next_token_of}
 use Rattle.eg_level2.specs.Words.{Words, start}
 use Rattle.eg_level2.specs.Modules.{marked, closed_flow, number_of}
-use Rattle.eg_flow.specs.Ticks.{Doing, after_modules, after_tick, answer_at}
-use Rattle.eg_flow.specs.Flow.{row_asked, expected_fold, expected_number, FitsWords, is_undisturbed, AreInOrder, AreTogether, words_after, whole_after, whole_since, IsSteady}
+use Rattle.eg_level2.specs.Ticks.{Doing, after_modules, after_tick, answer_at}
+use Rattle.eg_level2.specs.Flow.{row_asked, expected_fold, expected_number, FitsWords, is_undisturbed, AreInOrder, AreTogether, words_after, whole_after, whole_since, IsSteady}
 
 -- the words as react begins
 abbrev pub at_react : Doing → Words → Words

@@ -1,5 +1,5 @@
-use Rattle.eg_flow.proofs.FlowSteps.{whole_tick, empty_tick, mark_stays, two_flows}
-use Rattle.eg_flow.proofs.flows_tell_gaps.Goals as goal
+use Rattle.eg_level2.proofs.FlowSteps.{whole_tick, empty_tick, mark_stays, two_flows}
+use Rattle.eg_level2.proofs.flow.flows_tell_gaps.Goals as goal
 
 pub returns-clause-whole : goal.returns-clause-whole
 returns-clause-whole c = whole_tick

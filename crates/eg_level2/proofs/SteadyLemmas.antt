@@ -8,13 +8,13 @@ use Rattle.std.proofs.lemmas.Bool.Decides.{eqb_tells}
 use Rattle.eg_answer.specs.Answers.{answer_number}
 use Rattle.eg_level2.specs.Words.{Words, start}
 use Rattle.eg_level2.specs.Modules.{marked, closed_flow, number_of}
-use Rattle.eg_flow.specs.Ticks.{Doing, after_tick, answer_at}
+use Rattle.eg_level2.specs.Ticks.{Doing, after_tick, answer_at}
 use Rattle.eg_answer.specs.Modules.{modules_before_react, modules, AllRun, NoneRuns, OthersRun}
-use Rattle.eg_flow.specs.Flow.{is_whole, row_asked, expected_fold, expected_number, FitsWords, AreInOrder, AreTogether, words_after, whole_after, whole_since, IsSteady}
-use Rattle.eg_flow.specs.Laws.{at_react, NumberTells, SteadyStays, SteadyAnswers, GapAnswers, SteadyFromStart}
-use Rattle.eg_flow.proofs.FlowSteps.{whole_tick, empty_tick, closed-flow, marked-high, flow-after}
-use Rattle.eg_flow.proofs.TickSteps.{before-is}
-use Rattle.eg_flow.proofs.FoldSteps.{fold_tells, expected-word}
+use Rattle.eg_level2.specs.Flow.{is_whole, row_asked, expected_fold, expected_number, FitsWords, AreInOrder, AreTogether, words_after, whole_after, whole_since, IsSteady}
+use Rattle.eg_level2.specs.FlowLaws.{at_react, NumberTells, SteadyStays, SteadyAnswers, GapAnswers, SteadyFromStart}
+use Rattle.eg_level2.proofs.FlowSteps.{whole_tick, empty_tick, closed-flow, marked-high, flow-after}
+use Rattle.eg_level2.proofs.TickSteps.{before-is}
+use Rattle.eg_level2.proofs.FoldSteps.{fold_tells, expected-word}
 
 -- ---- the number ----
 

@@ -6,10 +6,10 @@ use Rattle.std.proofs.lemmas.Nat.{le_or_r}
 use Rattle.eg_answer.specs.Token.{next_token_of}
 use Rattle.eg_level2.specs.Words.{Words}
 use Rattle.eg_level2.specs.Modules.{marked, check_step, given_up, pedal_step, permitted_step, actual_step, excess_step, pairs_step, debounce_step, closed_flow, answers_now, number_of, answer_of, react_step, module_step}
-use Rattle.eg_flow.specs.Ticks.{Doing, inputs_for, after_module, after_modules, after_tick, answer_at}
+use Rattle.eg_level2.specs.Ticks.{Doing, inputs_for, after_module, after_modules, after_tick, answer_at}
 use Rattle.eg_answer.specs.Modules.{modules_before_react, AllRun, NoneRuns}
-use Rattle.eg_flow.specs.Laws.{at_react, WholeTick, EmptyTick, MarkStays, IsFlow, TwoFlows, ReactClears}
-use Rattle.eg_flow.proofs.TickSteps.{part, token_tells}
+use Rattle.eg_level2.specs.FlowLaws.{at_react, WholeTick, EmptyTick, MarkStays, IsFlow, TwoFlows, ReactClears}
+use Rattle.eg_level2.proofs.TickSteps.{part, token_tells}
 
 -- a part that a module leaves as it is
 same_part : {A B : Type 0} (f : A → B) (b : Bool) (x y : A) → f x ≡ f y → f (if b then x else y) ≡ f y

@@ -9,7 +9,7 @@ use Rattle.eg_answer.specs.declared.rules.Rules.{Rules}
 use Rattle.eg_answer.specs.declared.rules.TestRow.{TestRow}
 use Rattle.eg_level2.specs.Words.{Words}
 use Rattle.eg_level2.specs.Inputs.{row_of}
-use Rattle.eg_flow.specs.Ticks.{Doing, after_tick, answer_at}
+use Rattle.eg_level2.specs.Ticks.{Doing, after_tick, answer_at}
 
 -- ---- which modules run at a tick ----
 

@@ -11,11 +11,11 @@ use Rattle.eg_answer.specs.Answers.{pedal_result, permitted_result, estimate_res
 use Rattle.eg_answer.proofs.FoldLemmas.{fold_law, fold_below}
 use Rattle.eg_level2.specs.Words.{Words}
 use Rattle.eg_level2.specs.Modules.{check_step, signed, pedal_step, permitted_step, actual_step, excess_step, pairs_step, debounce_step, module_step}
-use Rattle.eg_flow.specs.Ticks.{Doing, inputs_for, after_module, after_modules}
+use Rattle.eg_level2.specs.Ticks.{Doing, inputs_for, after_module, after_modules}
 use Rattle.eg_answer.specs.Modules.{modules_before_react, modules, AllRun, NoneIsDisturbed, OneIsDisturbed}
-use Rattle.eg_flow.specs.Flow.{row_asked, expected_fold, FitsWords, is_undisturbed}
-use Rattle.eg_flow.specs.Laws.{at_react, FoldTells}
-use Rattle.eg_flow.proofs.TickSteps.{before-is}
+use Rattle.eg_level2.specs.Flow.{row_asked, expected_fold, FitsWords, is_undisturbed}
+use Rattle.eg_level2.specs.FlowLaws.{at_react, FoldTells}
+use Rattle.eg_level2.proofs.TickSteps.{before-is}
 
 -- ---- the fold as react begins ----
 

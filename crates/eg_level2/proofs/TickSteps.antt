@@ -10,9 +10,9 @@ use Rattle.eg_answer.specs.Token.{next_token_of}
 use Rattle.eg_answer.proofs.TokenLemmas.{next_token_of-turn, next_token_of-other}
 use Rattle.eg_level2.specs.Words.{Words}
 use Rattle.eg_level2.specs.Modules.{check_step, pedal_step, permitted_step, actual_step, excess_step, pairs_step, debounce_step, module_step}
-use Rattle.eg_flow.specs.Ticks.{Doing, after_module, after_modules}
+use Rattle.eg_level2.specs.Ticks.{Doing, after_module, after_modules}
 use Rattle.eg_answer.specs.Modules.{modules_before_react}
-use Rattle.eg_flow.specs.Laws.{TokenTells}
+use Rattle.eg_level2.specs.FlowLaws.{TokenTells}
 
 -- a part of one of two words is one of two parts
 pub part : {A B : Type 0} (f : A → B) (b : Bool) (x y : A) → f (if b then x else y) ≡ (if b then f x else f y)

@@ -17,8 +17,8 @@ use Rattle.eg_level2.specs.Words.{Words, is_set, start}
 use Rattle.eg_level2.specs.Inputs.{row_of}
 use Rattle.eg_level2.specs.Modules.{feeds_now, marked, check_step, given_up, written, signed, pedal_step, permitted_step, actual_step, excess_step, pairs_step, pedal_bit, plate_bit, load_bit, speed_bit, torque_bit, counted, is_found, debounced, limits, trips, debounce_step, closed_flow, answers_now, number_of, answer_of, react_step, module_step}
 use Rattle.eg_level2.proofs.Worked.{rules, question, idle, after_tick_0}
-use Rattle.eg_flow.specs.Ticks.{Doing, inputs_for, after_module, after_modules, after_tick, answer_at}
-use Rattle.eg_flow.specs.Flow.{row_asked, expected_fold, expected_number}
+use Rattle.eg_level2.specs.Ticks.{Doing, inputs_for, after_module, after_modules, after_tick, answer_at}
+use Rattle.eg_level2.specs.Flow.{row_asked, expected_fold, expected_number}
 
 -- The question is asked at a tick, with the readings of an idle engine, as in the examples of level 2. These
 -- modules run, the disturbance of each is as given, and no word differs from its complement.

@@ -1,14 +1,12 @@
-//! The program flow of level 2: the laws of the token, the flow, the last tick and the fold, over one tick
-//! and over many. They speak of level 2 alone, whatever the fault.
-//!
-//! A tick is the eight modules of level 2 one after another (`specs/Ticks.antt`). Where at each tick all
-//! eight run or none does, three words tell between two ticks whether all eight ran at each tick since the
-//! last answer (`specs/Flow.antt`, `IsSteady`). The number that is sent is then the expected one exactly
-//! if they did and none is disturbed now.
-#![tactic(auto)]
-
-ghost use Rattle.eg_flow.specs.Laws.{TokenTells, ReactClears, WholeTick, EmptyTick, MarkStays, TwoFlows, FoldTells};
-ghost use Rattle.eg_flow.specs.Laws.{NumberTells, SteadyStays, SteadyAnswers, GapAnswers, SteadyFromStart};
+// The program flow of level 2: the laws of the token, the flow, the last tick and the fold, over one tick
+// and over many. They speak of level 2 alone, whatever the fault.
+//
+// A tick is the eight modules of level 2 one after another (`specs/Ticks.antt`). Where at each tick all
+// eight run or none does, three words tell between two ticks whether all eight ran at each tick since the
+// last answer (`specs/Flow.antt`, `IsSteady`). The number that is sent is then the expected one exactly
+// if they did and none is disturbed now.
+ghost use Rattle.eg_level2.specs.FlowLaws.{TokenTells, ReactClears, WholeTick, EmptyTick, MarkStays, TwoFlows, FoldTells};
+ghost use Rattle.eg_level2.specs.FlowLaws.{NumberTells, SteadyStays, SteadyAnswers, GapAnswers, SteadyFromStart};
 
 /// Does nothing when it runs. Its contract is two laws of the token, which is 0 as a tick begins
 /// (docs/CONCEPT.md, "Questions and answers"). It is 255 as react closes exactly if all seven modules
