@@ -11,6 +11,7 @@ NAME = "units.toml"  # beside a calibration: how long its ticks are, `tick = "10
 TIME = re.compile(r"(\d{1,9}(?:\.\d{1,9})?) ?(us|ms|s)")
 NANOSECONDS = {"ns": 1, "us": 10**3, "ms": 10**6, "s": 10**9}
 MOST_TICK = 10 * NANOSECONDS["s"]
+MOST_DIGITS = 400  # behind a point
 LONG = 10 * NANOSECONDS["s"]  # from here on a time is told in seconds
 # What the columns of `table` and `margins`, and the lines of `limits`, are counted in.
 OF_TICKS = ("onset", "first_at", "cut_at", "off_at", "last_on", "confirmed", "stretch", "reaction", "bound", "trap_at", "lapse",
@@ -19,8 +20,10 @@ OF_TORQUE = ("peak", "surplus")  # tenths of Nm
 
 
 def decimal(number):
-    """A fraction whose denominator divides a power of ten, with as many digits as it needs."""
+    """A fraction whose denominator divides a power of ten, with as many digits as it needs; others raise ValueError."""
     sign, number, digits = "-" if number < 0 else "", abs(Fraction(number)), 0
+    if 10**MOST_DIGITS % number.denominator:
+        raise ValueError(f"{number} has no end as a decimal")
     while number.denominator != 1:
         number, digits = number * 10, digits + 1
     said = f"{number.numerator:0{digits + 1}}"

@@ -5,6 +5,7 @@ import random
 import re
 import unittest
 from decimal import Decimal
+from fractions import Fraction
 
 from in_folder import InFolder
 from lib.files import TOP
@@ -41,6 +42,12 @@ class Times(unittest.TestCase):
             self.assertEqual(time_of(time_told(time)), time)
             shift = draw.randint(0, 9)
             self.assertEqual(Decimal(decimal(Decimal(-time).scaleb(-shift))), Decimal(-time).scaleb(-shift))
+
+
+    def test_decimals_that_have_no_end(self):
+        self.assertEqual((decimal(Fraction(-1, 8)), decimal(0), decimal(Fraction(1000, 4000))), ("-0.125", "0", "0.25"))
+        for fraction in (Fraction(1, 3), Fraction(1000, 4095)):
+            self.assertRaises(ValueError, decimal, fraction)
 
 
 class Told(unittest.TestCase):
