@@ -153,7 +153,7 @@ def room_in(folder):
 def make_folder(**where):
     while True:
         room = tempfile.mkdtemp(**where)
-        with contextlib.suppress(FileNotFoundError):  # another call has removed it, since nobody had locked it yet
+        with contextlib.suppress(FileNotFoundError):  # another call has taken it for what a killed one left
             return os.open(room, os.O_RDONLY | os.O_DIRECTORY | os.O_CLOEXEC), room
 
 

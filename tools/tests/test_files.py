@@ -200,6 +200,11 @@ with room_in(".") as room, written("a") as file:
         self.assertRegex(told, r"/\.egasim-abcdefg7 was left by a call that was killed, unless one goes on\n$")
         self.assertEqual((sorted(os.listdir()), read("a")), ([LEFT, "a"], b"new"))
 
+    def test_room_that_another_call_removes_at_once_is_made_anew(self):
+        os.mkdir("kept")
+        with mock.patch.object(files.tempfile, "mkdtemp", side_effect=["./gone", "./kept"]), room_in(".") as room:
+            self.assertEqual(room, "./kept")
+
     def test_room_is_there_as_long_as_it_is_used(self):
         with room_in(".") as room:
             self.assertRegex(room, r"^\./\.egasim-[a-z0-9_]{8}$")
