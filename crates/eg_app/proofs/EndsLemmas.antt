@@ -5,7 +5,7 @@ use Rattle.eg_base.specs.Outside.{ShownStore, ShownSink}
 use Rattle.eg_lines.specs.Lines.{ShownLines, lines_in}
 use Rattle.eg_tick.specs.Weights.{TickCount}
 use Rattle.eg_values.specs.Calibration.{CalibrationParts}
-use Rattle.eg_outcome.specs.Changes.{Change}
+use Rattle.eg_outcome.specs.Changes.{Change, change}
 use Rattle.eg_outcome.specs.declared.outcome.Outcome.{Outcome}
 use Rattle.eg_outcome.specs.declared.outcome.Outcome.TheVariants.{Done, Memory, Refused}
 use Rattle.eg_outcome.specs.declared.outcome.Refusal.TheVariants as refusal
@@ -29,8 +29,8 @@ use Rattle.eg_app.specs.declared.job.Job.TheVariants as job
 use Rattle.eg_app.specs.Words.{Command, by, soak, answers, asm, dis, Work, check, bound, limits, run, record_run, sweep, replay, signals, couple}
 use Rattle.eg_app.specs.Gathered.{Gathers, GathersBy}
 use Rattle.eg_app.specs.Performed.{Performs}
-use Rattle.eg_app.specs.Unlined.{no_lines}
-use Rattle.eg_app.specs.Ends.{Call, Ends, AcceptsAll, AcceptsWork, Completes, HoldsLines, WritesWell}
+use Rattle.eg_app.specs.Unlined.{EndsWithoutLines, no_lines}
+use Rattle.eg_app.specs.Ends.{Call, call, Ends, AcceptsAll, AcceptsWork, Completes, HoldsLines, WritesWell}
 use Rattle.eg_app.proofs.ChainLemmas.{no_value, of_work, of_chain, without_job}
 use Rattle.eg_app.proofs.FileLemmas.{file_done, file_never, calibration_done, line_done}
 use Rattle.eg_app.proofs.PlayLemmas.{runs_done, named_done, swept_done, undriven_done}
@@ -117,23 +117,32 @@ job_done (job.Asm words) lines out ticks o holds still told = line_done _ out o 
 job_done (job.Dis words) lines out ticks o holds still told = line_done _ out o told.1 still
 
 -- a call that ends so completes its work
-pub completes : (command : Option Command) (nothing : Type 0) (call : Call) (o : Outcome)
-    → Ends command nothing call o → Completes command call.store call.lines.before call.out o
-completes None nothing call o ends = tt
-completes (Some command) nothing call o ends = λ accepts holds still.
-    of_work IsDoneOrMemory o ends (gather_done command call.store accepts)
-    (λ one gathered told. job_done one call.lines call.out call.ticks o (holds one gathered) still told.1)
+pub completes : (command : Option Command) (nothing : Type 0) (made : Call) (o : Outcome)
+    → Ends command nothing made o → Completes command made.store made.lines.before made.out o
+completes None nothing made o ends = tt
+completes (Some command) nothing made o ends = λ accepts holds still.
+    of_work IsDoneOrMemory o ends (gather_done command made.store accepts)
+    (λ one gathered told. job_done one made.lines made.out made.ticks o (holds one gathered) still told.1)
 
 -- ---- a call to which no lines come ----
 
 -- where nothing was done, this too is as it was
-pub ends_also : (command : Option Command) (nothing more : Type 0) → (nothing → more) → (call : Call) (o : Outcome)
-    → Ends command nothing call o → Ends command more call o
-ends_also None nothing more also call o (is, same) = (is, also same)
-ends_also (Some command) nothing more also call o (Ok one, gathers, told) = (Ok one, gathers, told)
-ends_also (Some command) nothing more also call o (Err end, gathers, (is, same)) = (Err end, gathers, (is, also same))
+ends_also : (command : Option Command) (nothing more : Type 0) → (nothing → more) → (made : Call) (o : Outcome)
+    → Ends command nothing made o → Ends command more made o
+ends_also None nothing more also made o (is, same) = (is, also same)
+ends_also (Some command) nothing more also made o (Ok one, gathers, told) = (Ok one, gathers, told)
+ends_also (Some command) nothing more also made o (Err end, gathers, (is, same)) = (Err end, gathers, (is, also same))
 
 -- an empty text has none
 pub none_shown : (shown : ShownLines) (text : List ℕ) → text ≡ [] → shown ≡ record { lines = Some (lines_in text); faults = 0; sure = true } → shown ≡ no_lines
 unfolding lines_in
 none_shown shown text empty is = is ∙ ap (λ t. record { lines = Some (lines_in t); faults = 0; sure = true }) empty
+
+pub without_lines : (command : Option Command) (nothing more : Type 0) → (nothing → more) → (store : Change ShownStore) (out : Change ShownSink)
+    (ticks : Change TickCount) (before left : ShownLines) (o : Outcome) → before ≡ no_lines
+    → Ends command nothing (call store (change before left) out ticks) o → EndsWithoutLines command more store out ticks o
+without_lines command nothing more also store out ticks before left o none ends = (
+  left,
+  ends_also command nothing more also (call store (change no_lines left) out ticks) o
+      (subst (λ (shown : ShownLines). Ends command nothing (call store (change shown left) out ticks) o) none ends),
+)

@@ -87,12 +87,12 @@ runs_tell telling calibration campaign cal inputs store out ticks used come told
 
 -- a coupling that is done has told of lines that it took
 coupling_tells : (unit : CoupledUnit) (call : Coupling) → CouplingEnds unit call Done
-    → (came : List (List ℕ)) × (answers : List PartnerAnswer) × LeadTo (couple_work unit) (reverse came) answers
-    × Appends call.out.before call.out.after (coupled_text unit answers) × KeepsCoupledHeadline unit answers
-coupling_tells unit call (answers, ends, ticked, headline) =
-    let (text, come, at_end, is, written, rest) = ends.ends in
-    let same : text ≡ coupled_text unit answers = cc in
-    (ends.taken, answers, ends.lead, subst (Appends call.out.before call.out.after) same written, headline)
+    → (came : List (List ℕ)) × (given : List PartnerAnswer) × LeadTo (couple_work unit) (reverse came) given
+    × Appends call.out.before call.out.after (coupled_text unit given) × KeepsCoupledHeadline unit given
+coupling_tells unit call (given, ends, ticked, headline) =
+    let (text, come, at_end, is, written, read, put) = ends.ends in
+    let same : text ≡ coupled_text unit given = cc in
+    (ends.taken, given, ends.lead, subst (Appends call.out.before call.out.after) same written, headline)
 
 module _ (store : Change ShownStore) (lines : Change ShownLines) (out : Change ShownSink) (ticks : Change TickCount) where
   -- by a calibration that came

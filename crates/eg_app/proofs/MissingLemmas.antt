@@ -1,49 +1,25 @@
 -- Which files a call says to be missing, from what it gathers.
-use Rattle.std.proofs.Common.{◌≡◌, List, ℕ, Option, Some, None, inl, inr, refl, ap, subst}
+use Rattle.std.proofs.Common.{◌≡◌, List, ℕ, Option, Some, None, inl, inr, subst}
 use Rattle.std.specs.Prelude.{◌↔◌, ◌⊎◌, Result, Ok, Err, IfSome, IsTrue}
 use Rattle.eg_base.specs.Outside.{ShownStore, IsMissing}
 use Rattle.eg_values.specs.Calibration.{CalibrationParts}
 use Rattle.eg_outcome.specs.Changes.{Change}
 use Rattle.eg_outcome.specs.declared.outcome.Outcome.{Outcome}
-use Rattle.eg_outcome.specs.declared.outcome.Outcome.TheVariants.{Done, Memory, ReadFault}
+use Rattle.eg_outcome.specs.declared.outcome.Outcome.TheVariants.{Memory, ReadFault}
 use Rattle.eg_outcome.specs.declared.outcome.Role.{Role}
 use Rattle.eg_outcome.specs.declared.outcome.Role.TheVariants as role
-use Rattle.eg_outcome.specs.Outcomes.{IsDoneOrMemory}
-use Rattle.eg_outcome.specs.Calibrations.{CalibrationComes, MissesCalibration}
+use Rattle.eg_outcome.specs.Calibrations.{MissesCalibration}
 use Rattle.eg_desk.specs.Ends.{read_alone}
 use Rattle.eg_app.specs.declared.job.Job.{Job}
 use Rattle.eg_app.specs.Words.{Command, by, soak, answers, asm, dis, Work}
 use Rattle.eg_app.specs.Gathered.{GathersBy}
 use Rattle.eg_app.specs.Missing.{EndsBy, own_file, TellsExactly, TellsMissing, TellsMissingBehind, TellsMissingBy, TellsMissingOwn}
-use Rattle.eg_app.proofs.FileLemmas.{IsStop, calibration_done, calibration_never}
+use Rattle.eg_app.proofs.FileLemmas.{IsStop}
 use Rattle.eg_app.proofs.HeadlineLemmas.{work_stops}
 
 pub ends_by : {X : Type 0} (come : Result X Outcome) (e : Outcome) → come ≡ Err e → EndsBy come e
 ends_by (Ok x) e is = absurd cc
 ends_by (Err end) e is = cc
-
-memory_left : (o : Outcome) → IsDoneOrMemory o → (o ≡ Done → ⊥) → o ≡ Memory
-memory_left Done is early = absurd (early refl)
-memory_left Memory is early = refl
-memory_left _ is early = absurd is
-
--- the calibration didn't come
-pub missing_first : (calibration : Option (List ℕ)) (work : Work) (store : Change ShownStore) (end : Outcome)
-    → CalibrationComes calibration store (Err end)
-    → (IsTrue store.before.sure → ((let come : Result CalibrationParts Outcome = Err end in come ≡ Err (ReadFault role.Calibration))
-    ↔ MissesCalibration calibration store.before))
-    → TellsMissingBy calibration work store.before (λ e. end ≡ e)
-missing_first None work store end comes told = absurd cc
-missing_first (Some name) work store end comes told = record {
-  of_calibration = λ sure. (λ is. (told sure).0 (ap (λ o. Err o) is), λ missing. ends_by (let come : Result CalibrationParts Outcome = Err end in come) _ ((told sure).1 missing));
-  of_own = λ sure accepts there. own (own_file work)
-      (memory_left end (calibration_done (Some name) store (inr (sure, there)) accepts end comes) (calibration_never (Some name) store end comes));
-}
-  where
-    own : (file : Option (Role × List ℕ)) → end ≡ Memory
-        → IfSome file (λ one. IsMissing store.before.files one.1 → (end ≡ ReadFault one.0) ⊎ (end ≡ Memory))
-    own None is = tt
-    own (Some one) is = λ missing. inr is
 
 -- it came, and what is read behind it is told
 pub missing_behind : (calibration : Option (List ℕ)) (work : Work) (store : Change ShownStore) (cal : CalibrationParts) (come : Result Job Outcome)

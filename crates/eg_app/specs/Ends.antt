@@ -1,8 +1,8 @@
 -- A call first gathers a job, and then performs it: so nothing is put, no line is read and no tick is made
--- before all files are accepted. A fault that is met is counted, and each case says whose count stayed too. So
--- each outcome comes exactly if its case says (but where a count stands at the last value of a u64); running
--- out of memory alone may come at any place. Where a call reads several files, the count doesn't tell which of
--- the reads met a fault: over a sure store `FileComes` and `TellsMissing` do, else a test.
+-- before all files are accepted. A fault that is met is counted, and each case says whose count stayed too.
+-- So each outcome comes exactly if its case says (but where a count stands at the last value of a u64);
+-- running out of memory alone may come at any place. Where a call reads several files, the count doesn't tell
+-- which of the reads met a fault: over a sure store `FileComes` and `TellsMissing` do, else a test.
 use Rattle.std.specs.Prelude.{◌≡◌, ◌≢◌, ℕ, List, Option, Some, None, Result, Ok}
 use Rattle.eg_base.specs.Outside.{ShownStore, ShownSink, Rose}
 use Rattle.eg_lines.specs.Lines.{ShownLines}
@@ -42,12 +42,12 @@ pub record Call : Type 0 where
 abbrev pub call : Change ShownStore → Change ShownLines → Change ShownSink → Change TickCount → Call
 call store lines out ticks = record { store = store; lines = lines; out = out; ticks = ticks }
 
--- A job was gathered, no fault of reading a file was met, and it was performed; or the call ended without one,
--- and nothing was done. Where the words ask for nothing the outcome is Usage.
+-- A job was gathered, no fault of reading a file was met, and it was performed; or the call ended without
+-- one, and nothing was done. Where the words ask for nothing the outcome is Usage.
 abbrev pub Ends : Option Command → (nothing : Type 0) → Call → Outcome → Type 0
 Ends (Some command) nothing call o = (come : Result Job Outcome) × Gathers command call.store come
-    × WorkFollows (λ one end. MeetsNoFault call.store × Performs one call.lines call.out call.ticks end) nothing
-    come o
+    × WorkFollows (λ one end. MeetsNoFault call.store × Performs one call.lines call.out call.ticks end)
+    nothing come o
 Ends None nothing call o = (o ≡ outcome.Usage) × nothing
 
 -- With this outcome the command put nothing. What `signals` puts of lines stays, and so what `couple` puts of
@@ -103,6 +103,7 @@ WritesWell out = ¬ Rose out.before.faults out.after.faults
 -- Where the words ask for something, each file is found and accepted, the lines are what the job takes that
 -- may come of the files, and no fault of writing is counted, the work is done, unless memory runs out.
 abbrev pub Completes : Option Command → Change ShownStore → ShownLines → Change ShownSink → Outcome → Type 0
-Completes (Some command) store lines out o = AcceptsAll command store
-    → ((one : Job) → Gathers command store (Ok one) → HoldsLines one lines) → WritesWell out → IsDoneOrMemory o
+Completes (Some command) store lines out o = AcceptsAll command store →
+    ((one : Job) → Gathers command store (Ok one) → HoldsLines one lines) →
+    WritesWell out → IsDoneOrMemory o
 Completes None store lines out o = Unit {0}

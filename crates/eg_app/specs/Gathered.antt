@@ -1,5 +1,5 @@
--- A command first reads all files that it needs, and accepts them: the calibration first, and then the files of
--- its work, in one order. What is to be done then is a job; or the call ends without one.
+-- A command first reads all files that it needs, and accepts them: the calibration first, and then the files
+-- of its work, in one order. What is to be done then is a job; or the call ends without one.
 use Rattle.std.specs.Prelude.{◌≡◌, ℕ, ◌≤◌, List, length, All, Option, Some, None, Result, Ok}
 use Rattle.eg_base.specs.Outside.{ShownStore}
 use Rattle.eg_fault.specs.Faults.{IsNoneOrValid}
@@ -27,7 +27,8 @@ Makes {X} of Comes come = (read : Result X Outcome) × Comes read × Then (λ x 
 
 -- by this calibration: what the work reads comes
 abbrev pub GathersBy : CalibrationParts → Work → Change ShownStore → Result Job Outcome → Type 0
-GathersBy cal (check file) store come = Makes (job.Check cal) (FileComes role.Check check_file file store) come
+GathersBy cal (check file) store come =
+    Makes (job.Check cal) (FileComes role.Check check_file file store) come
 GathersBy cal bound store come = come ≡ Ok (job.Bound cal)
 GathersBy cal limits store come = come ≡ Ok (job.Limits cal)
 GathersBy cal (run telling campaign) store come = Makes (job.Run telling cal) (RunsCome campaign store) come

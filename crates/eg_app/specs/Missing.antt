@@ -1,5 +1,5 @@
--- Outside the headline. Over a sure store, how missing files are told: `Told` says of an outcome that the call
--- ended with it. That reading a file is told to fail only where the file is missing stands in `Ends`
+-- Outside the headline. Over a sure store, how missing files are told: `Told` says of an outcome that the
+-- call ended with it. That reading a file is told to fail only where the file is missing stands in `Ends`
 -- (`FileComes`).
 use Rattle.std.specs.Prelude.{◌≡◌, ◌↔◌, ◌⊎◌, ℕ, List, Option, Some, None, option_map, IfSome, IsTrue, Result, Ok, Err}
 use Rattle.eg_base.specs.Outside.{ShownStore, IsMissing}

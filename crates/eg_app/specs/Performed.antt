@@ -1,5 +1,5 @@
--- How a job ends, by cases on what is to be done: on Done its whole text was written. A job that takes no lines
--- ends Done, or by a fault of writing, or as memory ran out.
+-- How a job ends, by cases on what is to be done: on Done its whole text was written. A job that takes no
+-- lines ends Done, or by a fault of writing, or as memory ran out.
 use Rattle.std.specs.Prelude.{ℕ, Bool, true, false}
 use Rattle.eg_base.specs.Outside.{ShownSink}
 use Rattle.eg_lines.specs.Lines.{ShownLines}

@@ -13,10 +13,10 @@ use Rattle.eg_app.specs.declared.command.Command.TheVariants as parsed
 use Rattle.eg_app.specs.declared.work.Work.{Work as ParsedWork}
 use Rattle.eg_app.specs.declared.work.Work.TheVariants as parsed_work
 
--- What is done by a calibration: to check the file of this name; to tell the two bounds, or all limits; to run
--- the campaign of this name, and tell its runs by the report or by a table; to record its run of that name; to
--- sweep over all classes of faults with that run, at each `step`th tick; to tell what level 2 finds on lines of
--- readings, behind the last or line by line; or to couple that run with a partner.
+-- What is done by a calibration: to check the file of this name; to tell the two bounds, or all limits; to
+-- run the campaign of this name, and tell its runs by the report or by a table; to record its run of that
+-- name; to sweep over all classes of faults with that run, at each `step`th tick; to tell what level 2 finds
+-- on lines of readings, behind the last or line by line; or to couple that run with a partner.
 pub data Work : Type 0 where
   check : (file : List ℕ) → Work
   bound : Work

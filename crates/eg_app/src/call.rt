@@ -45,7 +45,8 @@ pub fn egasim<S: Store, K: Sink, N: Sink>(
     ensures nothing_read { ReadsNothing (command_of (word_bytes words.now)) → store.new ≡ store.old }
     ensures files { (S.shows store.new).files ≡ (S.shows store.old).files }
     ensures nothing_put { HasPutNothing (command_of (word_bytes words.now)) result → out.new ≡ out.old }
-    ensures nothing_played { HasPutNothing (command_of (word_bytes words.now)) result → steps.new ≡ steps.old }
+    ensures nothing_played { HasPutNothing (command_of (word_bytes words.now)) result
+        → steps.new ≡ steps.old }
     ensures note { NotesOutcome (command_of (word_bytes words.now)) (S.shows store.old)
         (change_of N.shows notes.old notes.new) result }
     ensures no_note { result ≡ Done → notes.new ≡ notes.old }
@@ -54,8 +55,8 @@ pub fn egasim<S: Store, K: Sink, N: Sink>(
     egasim_on_lines(alloc, words, store, &mut lines, out, notes, steps)
 }
 
-/// Does what the words ask for (docs/FORMATS.md, "Commands"): it reads files from `store`, and then `lines` to
-/// their end, where the command takes lines; writes its text to `out`, counts in `steps` the ticks that it
+/// Does what the words ask for (docs/FORMATS.md, "Commands"): it reads files from `store`, and then `lines`
+/// to their end, where the command takes lines; writes its text to `out`, counts in `steps` the ticks that it
 /// makes, and notes any outcome but Done with one line in `notes`. The words don't hold the program's name.
 /// What was written before a line was refused stays. What `notes` refuses changes no outcome (shown by tests:
 /// no clause on the outcome speaks of it).
@@ -68,9 +69,9 @@ pub fn egasim_on_lines<S: Store, L: Lines, K: Sink, N: Sink>(
     notes: &mut N,
     steps: &mut Ticks,
 ) -> Outcome
-    // The headline (docs/READING.md, "The headline, field by field"): on Done the report, the record, the table
-    // or the rows that were written are those of the runs that the files say, whatever they hold, and each of
-    // these runs keeps the headline; so does each run that is drawn.
+    // The headline (docs/READING.md, "The headline, field by field"): on Done the report, the record, the
+    // table or the rows that were written are those of the runs that the files say, whatever they hold, and
+    // each of these runs keeps the headline; so does each run that is drawn.
     ensures headline { result ≡ Done → TellsHeadline (command_of (word_bytes words.now)) (S.shows store.old)
         (change_of K.shows out.old out.new) }
 
@@ -91,7 +92,8 @@ pub fn egasim_on_lines<S: Store, L: Lines, K: Sink, N: Sink>(
     ensures files { (S.shows store.new).files ≡ (S.shows store.old).files }
     ensures no_line { asks_lines (command_of (word_bytes words.now)) ≡ false → lines.new ≡ lines.old }
     ensures nothing_put { HasPutNothing (command_of (word_bytes words.now)) result → out.new ≡ out.old }
-    ensures nothing_played { HasPutNothing (command_of (word_bytes words.now)) result → steps.new ≡ steps.old }
+    ensures nothing_played { HasPutNothing (command_of (word_bytes words.now)) result
+        → steps.new ≡ steps.old }
 
     // The note of the outcome is put, and none after Done.
     ensures note { NotesOutcome (command_of (word_bytes words.now)) (S.shows store.old)
@@ -140,7 +142,8 @@ fn work<S: Store, L: Lines, K: Sink>(
     ensures files { (S.shows store.new).files ≡ (S.shows store.old).files }
     ensures no_line { asks_lines (Some (said command.entry)) ≡ false → lines.new ≡ lines.old }
     ensures nothing_put { HasPutNothing (Some (said command.entry)) result.outcome → out.new ≡ out.old }
-    ensures nothing_played { HasPutNothing (Some (said command.entry)) result.outcome → steps.new ≡ steps.old }
+    ensures nothing_played { HasPutNothing (Some (said command.entry)) result.outcome
+        → steps.new ≡ steps.old }
 {
     match gather(alloc, command, store) {
         Ok(job) => End::of(perform(alloc, job, lines, out, steps)),

@@ -30,7 +30,8 @@ pub(crate) fn gather<S: Store>(
     ensures gathers { Gathers (said command.entry) (change_of S.shows store.old store.new)
         (outcomes result) }
     ensures sound { IfOk result IsSound }
-    ensures names { IfErr result (λ end. Names (said command.entry) (S.shows store.old) end.outcome end.file) }
+    ensures names { IfErr result (λ end.
+        Names (said command.entry) (S.shows store.old) end.outcome end.file) }
     ensures missing { TellsMissing (Some (said command.entry)) (S.shows store.old)
         (EndsBy (outcomes result)) }
     ensures no_memory { IfErr result (λ end. TellsNoMemory end.outcome) }
@@ -69,7 +70,8 @@ fn gather_by<S: Store>(
     ensures gathers { GathersBy calibration (said_work work.entry) (change_of S.shows store.old store.new)
         (outcomes result) }
     ensures sound { IfOk result IsSound }
-    ensures names { IfErr result (λ end. NamesBy (said_work work.entry) (S.shows store.old) end.outcome end.file) }
+    ensures names { IfErr result (λ end.
+        NamesBy (said_work work.entry) (S.shows store.old) end.outcome end.file) }
     ensures missing { TellsMissingOwn (said_work work.entry) (S.shows store.old)
         (EndsBy (outcomes result)) }
     ensures no_memory { IfErr result (λ end. TellsNoMemory end.outcome) }

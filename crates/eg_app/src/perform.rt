@@ -15,8 +15,8 @@ use eg_stream::{couple_lines, replay_lines, signals_lines};
 use eg_tick::Ticks;
 use std::alloc::Global;
 
-/// Does a job: it reads `lines` where the job takes lines, writes its text to `out`, and counts in `steps` the
-/// ticks that it makes. What a job says was read before, and no file is read here.
+/// Does a job: it reads `lines` where the job takes lines, writes its text to `out`, and counts in `steps`
+/// the ticks that it makes. What a job says was read before, and no file is read here.
 pub(crate) fn perform<L: Lines, K: Sink>(
     alloc: Global,
     job: Job,

@@ -10,8 +10,8 @@ use eg_tick::Ticks;
 use eg_values::reference;
 use std::alloc::Global;
 
-/// Plays `runs` runs (1 to 500) that are drawn from the seed, and writes the summary of them (docs/FORMATS.md,
-/// "The summary of `soak`"). Ticks are counted in `steps`.
+/// Plays `runs` runs (1 to 500) that are drawn from the seed, and writes the summary of them
+/// (docs/FORMATS.md, "The summary of `soak`"). Ticks are counted in `steps`.
 #[inline(never)]
 pub(crate) fn play_drawn<K: Sink>(
     alloc: Global,

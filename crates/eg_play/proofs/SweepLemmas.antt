@@ -134,4 +134,4 @@ not-swept cal accepted step some input playable out was count weights =
 pub never_large : {T : Type 0} (result : Result T SweepFault) (large : Bool) → ((result ≡ Err fault.Grid) ↔ IsTrue large) → large ≡ false →
     result ≡ Err fault.Grid → ⊥
 never_large result true grid small told = absurd cc
-never_large result false grid small told = absurd (grid.0 told)
+never_large result false grid small told = absurd (let no = grid.0 told in cc)

@@ -7,8 +7,8 @@ use eg_lines::{Lines, ReadLines};
 use std::alloc::Global;
 use std::io::{BufReader, Read};
 
-/// The lines of a reader such as standard input. Its buffer is taken as the first line is asked for, so that a
-/// command that takes no lines needs none and reads none. No contract tells the lines of the system.
+/// The lines of a reader such as standard input. Its buffer is taken as the first line is asked for, so that
+/// a command that takes no lines needs none and reads none. No contract tells the lines of the system.
 #[derive(Drop)]
 pub(crate) struct LateLines<R: Read + Drop> {
     alloc: Global,
@@ -31,7 +31,8 @@ impl<R: Read + Drop> LateLines<R> {
     /// Appends the first `most` bytes of the next line to `into`, or all where it is shorter. Answers whether
     /// there was a line.
     fn append(&mut self, most: usize, into: &mut Vec<u8>) -> Result<bool, ReadRefusal>
-        ensures line { result ≡ Ok true → (line : List ℕ) × (into.new.items ≡ into.old.items ++ take most line) }
+        ensures line { result ≡ Ok true
+            → (line : List ℕ) × (into.new.items ≡ into.old.items ++ take most line) }
         ensures end { result ≡ Ok false → into.new.items ≡ into.old.items }
         ensures kept { OnErr result (BeginsWith into.old.items into.new.items) }
         ensures faults { self.new.faults ≡ self.old.faults }

@@ -40,7 +40,7 @@ pub returns-in-Err : goal.returns-in-Err
 returns-in-Err g c =
     let gathered = c.in-Err.ensures in
     record {
-      ends = (Err c.in-Err.end.outcome, gathered.gathers, (refl, (refl, (refl, refl))));
+      ends = (Err c.in-Err.end.outcome, gathered.gathers, (refl, (refl, refl, refl)));
       names = gathered.names;
       missing = gathered.missing;
       no_memory = gathered.no_memory;
