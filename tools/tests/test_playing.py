@@ -57,6 +57,8 @@ class Playing(unittest.TestCase):
         self.assertTrue({"docs/PROVED.md", "tools/lib/playing.py", "tools/lib/covering.py", "tools/report_files/page.css"} <= set(names))
         self.assertTrue(all(os.path.isfile(os.path.join(TOP, name)) for name in names))
         self.assertTrue(document("SAFETY.md").startswith("# For a safety case"))
+        with open(os.path.join(TOP, "VERSION"), encoding="utf-8") as file:
+            self.assertIn(f"`egasim` {file.read().strip()}, ", document("SAFETY.md").split("\n## ")[0])
 
 
 if __name__ == "__main__":
