@@ -23,4 +23,8 @@ tools/find examples/diesel.toml --cal examples/reference.toml --tolerant 300ms
 tools/find examples/diesel.toml --cal examples/reference.toml --tolerant 30 --thresholds 300-100/50
 tools/find examples/levels.toml --cal examples/reference.toml --tolerant 30 --thresholds 200
 tools/find --cal examples/reference.toml --tolerant 30
+cp examples/diesel.toml drives.toml
+tools/find drives.toml --cal examples/reference.toml --tolerant 30 --thresholds 200 --write drives.toml
+sed 's/follow/trapped/' examples/diesel.toml >trapped.toml
+tools/find trapped.toml --cal examples/reference.toml --tolerant 30 --thresholds 200
 true

@@ -20,12 +20,12 @@ from lib.files import read
 from lib.program import program
 from lib.putting import parsed, with_numbers
 from lib.tool import TOOL, as_noted, fail
+from lib.verdicts import idle_by
 
 OPEN = 10000  # a limit that is never reached, and the greatest that a file may have
 PAIRS = [watch for watch, table in WATCHES.items() if table == "pairs"]
 LEAST_PERIOD, MOST_PERIOD = 2, 100
 TIMES = ("period", "first", "last", "send", "limit")  # keys of the table `answers`
-FOUND = re.compile(r"(.*): first (?:(\w+) at (\d+)|none); ")
 REPLAYED = re.compile(r"(\w+) (?:none|at (\d+)); greatest (\d+) of (\d+)")
 
 
@@ -44,6 +44,7 @@ class Row:
     times: dict = field(default_factory=dict)  # keys of the table `answers`
     limits: dict = field(default_factory=dict)  # what `limits` tells by this row's calibration
     hindrance: str = ""  # why no times fit
+    far: tuple = ()  # by how much they don't; the least is the nearest
 
 
 class Search:
@@ -51,6 +52,7 @@ class Search:
 
     def __init__(self, asked, room):
         self.asked, self.room, self.name = asked, room, asked.cal
+        self.limits_by(asked.cal)  # so that whatever is wrong with the file is told by its name
         self.text = read(asked.cal).decode()
         self.start, self.numbers = parsed(asked.cal, self.text), itertools.count(1)
         self.drives = asked.drives
@@ -90,12 +92,18 @@ class Search:
             told[name] = {match[1]: int(match[3]) for match in map(REPLAYED.match, lines) if match}
         return told
 
+    def rows_by(self, path):
+        """The rows of `table` by a calibration. A run that shows nothing of its drive is told, and ends the search."""
+        rows = list(csv.DictReader(io.StringIO(self.call("table", "--cal", path, self.drives)))) if self.drives else []
+        for row in rows:
+            why = idle_by(row)
+            if why and not row["first"]:
+                fail(f"{self.drives}: {row['run']} is a run {why}, and shows nothing of its drive")
+        return rows
+
     def cuts_by(self, path):
-        """What is found first in each run, and what a recording finds of the torque: {name: (watch, tick)}."""
-        told = {}
-        lines = self.call("run", "--cal", path, self.drives).splitlines() if self.drives else []
-        for match in filter(None, map(FOUND.match, lines)):
-            told[match[1]] = match[2] and (match[2], int(match[3]))
+        """What is found first in each run and in each recording: {name: (watch, tick) or None}."""
+        told = {row["run"]: (row["first"], int(row["first_at"])) if row["first"] else None for row in self.rows_by(path)}
         for name in self.asked.recordings:
             lines = self.call("replay", "--cal", path, given=name).splitlines()
             found = [(match[1], int(match[2])) for match in map(REPLAYED.match, lines) if match and match[2]]
@@ -156,7 +164,7 @@ class Search:
             tries.append((far, hindrance, limits, times))
             if not hindrance:
                 break
-        _, row.hindrance, row.limits, row.times = min(tries, key=lambda one: one[0])
+        row.far, row.hindrance, row.limits, row.times = min(tries, key=lambda one: one[0])
 
     def times_for(self, row):
         """The times that may fit, the longest period first; where none does, those of the least period."""

@@ -33,10 +33,11 @@ def table_of(rows, units):
 
 def nearest_of(rows, left):
     """What is told where no threshold fits: the row that comes nearest, and which number stands in the way."""
-    row = min(rows, key=lambda row: (int(row.limits["stretch"]), row.threshold))
+    row = min(rows, key=lambda row: (row.far, row.threshold))
     where = f"; {row.binds} binds at {row.tick}" if row.binds else ""
-    return (f"nothing fits into {left} ticks; the threshold {row.threshold} comes nearest: {row.hindrance}, where D is "
-            f"{row.limits['excess']} and R {row.limits['reaction']}{where}")
+    return (f"nothing fits into {left} ticks; of the thresholds tried, {rows[0].threshold} to {rows[-1].threshold}, "
+            f"{row.threshold} comes nearest: {row.hindrance}, where D is {row.limits['excess']} and R "
+            f"{row.limits['reaction']}{where}")
 
 
 def picture_of(rows, left, units):
