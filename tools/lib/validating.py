@@ -10,9 +10,10 @@ import threading
 import time
 from concurrent.futures import ThreadPoolExecutor
 from dataclasses import dataclass
+from itertools import groupby
 
 from lib.files import TOP, read, sum_of
-from lib.program import is_own, own_warning, program, version_lines
+from lib.program import program, version_lines
 from lib.tool import as_noted, fail
 
 WHOLE = {"campaigns": 2000, "inputs": 20000, "images": 20000, "parts": 1}  # what a whole validation plays
@@ -134,10 +135,12 @@ def checkout(top=TOP):
     return (told("rev-parse", "HEAD") or "none") + changes
 
 
-def first_line(*words):
-    if not shutil.which(words[0]):
-        return f"no {words[0]}"
-    return (subprocess.run(words, capture_output=True, text=True, check=False).stdout.splitlines() or [words[0]])[0]
+def compiler(name):
+    """A compiler with its version, the first number of the line that it prints."""
+    if not shutil.which(name):
+        return f"no {name}"
+    told = subprocess.run([name, "--version"], capture_output=True, text=True, check=False).stdout
+    return f"{name} {next(iter(re.findall(r'(?<= )[0-9]+[.][0-9.]+', told)), 'of an unknown version')}"
 
 
 def value_in(path, key):
@@ -154,11 +157,11 @@ def machine():
     return [f"Machine: {platform.machine()}, {os.cpu_count()} processors ({value_in('/proc/cpuinfo', 'model name')}), "
             f"memory {value_in('/proc/meminfo', 'MemTotal')}",
             f"System: {system}, Linux {platform.release()}, {' '.join(platform.libc_ver())}, Python {platform.python_version()}, "
-            f"{first_line('rustc', '--version')}, {first_line('cc', '--version')}"]
+            f"{compiler('rustc')}, {compiler('cc')}"]
 
 
 def time_text(seconds):
-    return time.strftime("%Y-%m-%d %H:%M UTC", time.gmtime(seconds))
+    return time.strftime("%Y-%m-%d %H:%M", time.gmtime(seconds))
 
 
 def shortages(numbers, outcomes):
@@ -169,7 +172,7 @@ def shortages(numbers, outcomes):
             yield f"{outcome.step.name}: {of_log if outcome.status == QUOTED else outcome.told[0]}"
     fewer = [f"{name} {numbers[name]} for {WHOLE[name]}" for name in WHOLE if numbers[name] != WHOLE[name]]
     if fewer:
-        yield f"other numbers than those of a whole validation: {', '.join(fewer)}"
+        yield f"numbers of a whole validation are others: {', '.join(fewer)}"
     for outcome in outcomes:
         yield from map(as_noted, outcome.skipped)
 
@@ -178,7 +181,7 @@ def others(outcomes, top=TOP):
     """The scripts of bench/ that no step calls."""
     called = {outcome.step.words[0] for outcome in outcomes}
     files = [entry for entry in os.scandir(os.path.join(top, "bench")) if entry.is_file() and os.access(entry.path, os.X_OK)]
-    return sorted({f"bench/{entry.name}" for entry in files} - called)
+    return sorted(entry.name for entry in files if f"bench/{entry.name}" not in called)
 
 
 def report(version, begun, numbers, outcomes, top=TOP):
@@ -187,20 +190,20 @@ def report(version, begun, numbers, outcomes, top=TOP):
     lines = list(shortages(numbers, outcomes))
     verdict = f"failed: {', '.join(failed)}" if failed else "passed, but for what was left out" if lines else "passed"
     yield from [f"## {version[0]}, {time_text(begun)[:10]}: {verdict}", ""]
-    yield f"- Time: {time_text(begun)} to {time_text(time.time())}"
+    yield f"- Time: {time_text(begun)} to {time_text(time.time())[11:]} UTC"
     yield f"- Checkout: commit {checkout(top)}"
     yield from (f"- {line[:1].upper()}{line[1:]}" for line in version[1:] if not line.startswith("commit "))
     yield from (f"- {line}" for line in machine())
     yield from ["", "Steps:", ""]
-    for outcome in outcomes:
-        if outcome.status != LEFT_OUT:
-            took = f"{outcome.status} in {outcome.seconds:.0f} s" if outcome.status != QUOTED else QUOTED
-            yield f"- {outcome.step.name} {took}, `{' '.join(outcome.step.words)}`: {'; '.join(outcome.told)}"
+    played = [outcome for outcome in outcomes if outcome.status != LEFT_OUT]
+    for (status, told), equal in groupby(played, lambda outcome: (outcome.status, outcome.told)):
+        equal = list(equal)
+        took = f" in {max(outcome.seconds for outcome in equal):.0f} s" if status != QUOTED else ""
+        commands = ", ".join(f"`{' '.join(outcome.step.words)}`" for outcome in equal)
+        yield f"- {commands} {status}{took}: {'; '.join(told)}"
     yield from ["", "Left out:", ""]
     yield from (f"- {line}" for line in lines)
-    yield f"- no step calls: {', '.join(f'`{path}`' for path in others(outcomes, top))}"
-    if is_own(version):
-        yield from ["", own_warning("report")]
+    yield f"- of `bench/`: {', '.join(others(outcomes, top))}"
 
 
 def validate(folder, asked):
@@ -211,7 +214,7 @@ def validate(folder, asked):
     begun, steps = time.time(), steps_of(asked.numbers, asked.seed, asked.jobs)
     outcomes = [quoted(asked.log)] if asked.log else []
     if not asked.log and not asked.gate:
-        outcomes = [Outcome(steps[0], LEFT_OUT, ["it isn't run here; --gate runs it"])]
+        outcomes = [Outcome(steps[0], LEFT_OUT, ["not run here"])]
     os.mkdir(folder)
     if asked.gate:
         # The gate builds the program, and takes none that the caller names.

@@ -74,7 +74,7 @@ class Validating(InFolder):
         outcomes = [Outcome(Step("gate", [GATE]), LEFT_OUT, ["it isn't run here"]),
                     Outcome(Step("a", ["bench/a"]), PASSED, ["1"], 2.6, ("z: skipped: b|c",))]
         self.assertEqual(list(shortages(WHOLE | {"inputs": 5}, outcomes)),
-                         ["gate: it isn't run here", "other numbers than those of a whole validation: inputs 5 for 20000",
+                         ["gate: it isn't run here", "numbers of a whole validation are others: inputs 5 for 20000",
                           "z: skipped: b|c"])
         self.assertEqual(list(shortages(WHOLE, [Outcome(Step("a", ["x"]), PASSED, ["1"])])), [])
 
@@ -85,16 +85,16 @@ class Validating(InFolder):
         played = Outcome(Step("a", ["bench/a", "7"]), PASSED, ["1 | 2", "3"], 2.6)
         lines = list(report(VERSION, 0, WHOLE, [played], os.getcwd()))
         self.assertEqual(lines[0], "## egasim 9.8.7, 1970-01-01: passed")
-        self.assertIn("- a passed in 3 s, `bench/a 7`: 1 | 2; 3", lines)
+        self.assertIn("- `bench/a 7` passed in 3 s: 1 | 2; 3", lines)
         self.assertIn("- Checkout: commit none", lines)
         self.assertIn("- Program 34, carried, kit K", lines)
-        self.assertEqual(lines[-1], "- no step calls: `bench/b`")
-        self.assertEqual(others([played], os.getcwd()), ["bench/b"])
+        self.assertEqual(lines[-1], "- of `bench/`: b")
+        self.assertEqual(others([played], os.getcwd()), ["b"])
+        parts = [Outcome(Step(f"c-{seed}", ["bench/c", str(seed)]), PASSED, ["5 equal"], seconds) for seed, seconds in ((1, 9), (2, 7))]
+        self.assertIn("- `bench/c 1`, `bench/c 2` passed in 9 s: 5 equal", list(report(VERSION, 0, WHOLE, parts, os.getcwd())))
         bad = Outcome(Step("b", ["bench/b"]), FAILED, ["x"])
         self.assertEqual(next(report(VERSION, 0, SMALL, [played, bad], os.getcwd())), "## egasim 9.8.7, 1970-01-01: failed: b")
         self.assertTrue(next(report(VERSION, 0, SMALL, [played], os.getcwd())).endswith(": passed, but for what was left out"))
-        own = list(report(["egasim 9.8.7, by a program of your own", "program 34"], 0, WHOLE, [played], os.getcwd()))
-        self.assertTrue(own[-1].startswith("The program was named by whoever made this report."))
 
     def test_words_that_are_none(self):
         os.mkdir("there")
