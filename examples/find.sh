@@ -3,15 +3,15 @@
 work=$(mktemp -d) && trap 'rm -rf "$work"' EXIT && ln -s "$PWD/egasim" "$PWD/examples" "$PWD/tools" "$work" && cd "$work" || exit
 find() { tools/find examples/diesel.toml --cal examples/reference.toml --tick 10ms --tolerant 300ms --falls 20ms "$@"; }
 find --thresholds 100-500/200 --recording examples/measured.csv --picture best.svg --write best.toml | tee told
-./egasim limits --cal best.toml | head -n 1
+./egasim limits --cal best.toml | sed -n 1p
 for threshold in 100 300 500; do
   sed "s/^threshold = .*/threshold = $threshold/" examples/reference.toml >answered.toml
   tools/answer answered.toml >answers
   least=
   for limit in 8 7 6 5 4 3 2 1; do
     sed "/^.torque/,/^.pairs/s/^limit = .*/limit = $limit/" answered.toml >tried.toml
-    ./egasim run --cal tried.toml examples/diesel.toml | grep -q 'first torque' && break
-    ./egasim replay --cal tried.toml <examples/measured.csv | grep -q '^torque at' && break
+    ./egasim run --cal tried.toml examples/diesel.toml | grep 'first torque' >found && break
+    ./egasim replay --cal tried.toml <examples/measured.csv | grep '^torque at' >found && break
     least=$limit
   done
   awk -v threshold=$threshold -v least="$least" '($1 == "*" ? $2 : $1) == threshold {

@@ -7,7 +7,7 @@ sed -n '1p;22,23p;29p' record.csv | cut -d, -f1-3,5-7,12-16,19 && sed -n '1p;21,
 
 # The replay of a recording has the signals and the watches of the record: of each drive span, and under a fault.
 agree() { # RECORDING FIRST TICKS: those of the run from FIRST on, of the record, beside the first of the recording
-  ./egasim signals --cal "$cal" <"$1" | sed 1d | head -n "$3" | cut -d, -f2-6,12 >replayed
+  ./egasim signals --cal "$cal" <"$1" | sed 1d | sed -n "1,$3p" | cut -d, -f2-6,12 >replayed
   sed 1,2d record.csv | tail -n "+$(($2 + 1))" | head -n "$(wc -l <replayed)" | cut -d, -f12-16,19 |
     sed -E 's/(mirror|answers|start)\+?//; s/\+$//; s/,$/,-/' | cmp - replayed && echo "$1: $(wc -l <replayed) ticks agree from $2 on"
 }

@@ -184,14 +184,14 @@ def others(outcomes, top=TOP):
     return sorted(entry.name for entry in files if f"bench/{entry.name}" not in called)
 
 
-def report(version, begun, numbers, outcomes, top=TOP):
-    """The lines of the report, and whether all that was played has passed."""
+def report(version, commit, begun, numbers, outcomes, top=TOP):
+    """The lines of the report."""
     failed = [outcome.step.name for outcome in outcomes if outcome.status == FAILED]
     lines = list(shortages(numbers, outcomes))
     verdict = f"failed: {', '.join(failed)}" if failed else "passed, but for what was left out" if lines else "passed"
     yield from [f"## {version[0]}, {time_text(begun)[:10]}: {verdict}", ""]
     yield f"- Time: {time_text(begun)} to {time_text(time.time())[11:]} UTC"
-    yield f"- Checkout: commit {checkout(top)}"
+    yield f"- Checkout: commit {commit}"
     yield from (f"- {line[:1].upper()}{line[1:]}" for line in version[1:] if not line.startswith("commit "))
     yield from (f"- {line}" for line in machine())
     yield from ["", "Steps:", ""]
@@ -207,11 +207,11 @@ def report(version, begun, numbers, outcomes, top=TOP):
 
 
 def validate(folder, asked):
-    """Plays all, and writes the report. The answer is whether nothing failed."""
+    """Plays all, writes the report, and answers what came of each step."""
     if os.path.lexists(folder):
         fail(f"{folder} is there already")
     folder = os.path.abspath(folder)
-    begun, steps = time.time(), steps_of(asked.numbers, asked.seed, asked.jobs)
+    begun, commit, steps = time.time(), checkout(), steps_of(asked.numbers, asked.seed, asked.jobs)
     outcomes = [quoted(asked.log)] if asked.log else []
     if not asked.log and not asked.gate:
         outcomes = [Outcome(steps[0], LEFT_OUT, ["not run here"])]
@@ -226,6 +226,7 @@ def validate(folder, asked):
     rest = [step for step in steps[1:] if step not in without]
     outcomes += plays.outcomes([step for step in rest if not step.words[0].startswith("bench/")], 1)
     outcomes += plays.outcomes([step for step in rest if step.words[0].startswith("bench/")], asked.jobs)
+    commit += "" if checkout() == commit else ", which was changed meanwhile"
     with open(os.path.join(folder, "report.md"), "w", encoding="utf-8") as file:
-        file.writelines(f"{line}\n" for line in report(version, begun, asked.numbers, outcomes))
+        file.writelines(f"{line}\n" for line in report(version, commit, begun, asked.numbers, outcomes))
     return outcomes

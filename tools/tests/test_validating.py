@@ -7,7 +7,7 @@ import time
 
 from in_folder import InFolder
 from lib.files import TOOLS, sum_of
-from lib.validating import (FAILED, GATE, LEFT_OUT, PASSED, SMALL, WHOLE, Outcome, Plays, Step, others, quoted, report, shortages,
+from lib.validating import (FAILED, GATE, LEFT_OUT, PASSED, SMALL, WHOLE, Outcome, Plays, Step, checkout, others, quoted, report, shortages,
                             steps_of)
 
 VERSION = ["egasim 9.8.7", "commit abc", "sources with kit 12", "program 34, carried, kit K"]
@@ -83,18 +83,19 @@ class Validating(InFolder):
             self.script(f"bench/{name}", "")
         self.put("bench/c.py")
         played = Outcome(Step("a", ["bench/a", "7"]), PASSED, ["1 | 2", "3"], 2.6)
-        lines = list(report(VERSION, 0, WHOLE, [played], os.getcwd()))
+        lines = list(report(VERSION, "abc", 0, WHOLE, [played], os.getcwd()))
         self.assertEqual(lines[0], "## egasim 9.8.7, 1970-01-01: passed")
         self.assertIn("- `bench/a 7` passed in 3 s: 1 | 2; 3", lines)
-        self.assertIn("- Checkout: commit none", lines)
+        self.assertIn("- Checkout: commit abc", lines)
+        self.assertEqual(checkout(os.getcwd()), "none")
         self.assertIn("- Program 34, carried, kit K", lines)
         self.assertEqual(lines[-1], "- of `bench/`: b")
         self.assertEqual(others([played], os.getcwd()), ["b"])
         parts = [Outcome(Step(f"c-{seed}", ["bench/c", str(seed)]), PASSED, ["5 equal"], seconds) for seed, seconds in ((1, 9), (2, 7))]
-        self.assertIn("- `bench/c 1`, `bench/c 2` passed in 9 s: 5 equal", list(report(VERSION, 0, WHOLE, parts, os.getcwd())))
+        self.assertIn("- `bench/c 1`, `bench/c 2` passed in 9 s: 5 equal", list(report(VERSION, "abc", 0, WHOLE, parts, os.getcwd())))
         bad = Outcome(Step("b", ["bench/b"]), FAILED, ["x"])
-        self.assertEqual(next(report(VERSION, 0, SMALL, [played, bad], os.getcwd())), "## egasim 9.8.7, 1970-01-01: failed: b")
-        self.assertTrue(next(report(VERSION, 0, SMALL, [played], os.getcwd())).endswith(": passed, but for what was left out"))
+        self.assertEqual(next(report(VERSION, "abc", 0, SMALL, [played, bad], os.getcwd())), "## egasim 9.8.7, 1970-01-01: failed: b")
+        self.assertTrue(next(report(VERSION, "abc", 0, SMALL, [played], os.getcwd())).endswith(": passed, but for what was left out"))
 
     def test_words_that_are_none(self):
         os.mkdir("there")
