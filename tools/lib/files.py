@@ -71,6 +71,13 @@ def sum_of_file(name):
 # Written
 
 
+def refuse_input(output, inputs):
+    """Fails where an output would stand in the place of one of the files that are read, also by another name or link."""
+    for name in inputs:
+        if os.path.exists(output) and os.path.exists(name) and os.path.samefile(output, name):
+            fail(f"{output} would be written over, and is read{'' if name == output else f' as {name}'}")
+
+
 def write(name, content, mode=None):
     """Writes a file whole, as `written` does."""
     with written(name, mode) as file:

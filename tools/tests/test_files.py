@@ -9,8 +9,8 @@ import threading
 from unittest import mock
 
 from lib import files
-from lib.files import (read, remove_left, room_in, sum_of, sum_of_file, text_in, text_of, text_on_standard_input, write,
-                       written)
+from lib.files import (read, refuse_input, remove_left, room_in, sum_of, sum_of_file, text_in, text_of,
+                       text_on_standard_input, write, written)
 from in_folder import InFolder
 from notes import note_of
 
@@ -114,6 +114,19 @@ class Writing(InFolder):
             file.flush()
             self.assertEqual(read("a"), b"old")
         self.assertEqual(read("a"), b"new")
+
+    def test_output_that_is_read_is_refused_by_each_of_its_names(self):
+        self.put("d/a", b"in")
+        os.link("d/a", "hard")
+        os.symlink("d/a", "soft")
+        os.symlink("gone", "dangling")
+        self.put("b", b"in")
+        self.assertEqual(note_of(refuse_input, "d/a", ["b", "d/a"]), "d/a would be written over, and is read")
+        for name in ("hard", "soft", "./d/../d/a", os.path.abspath("d/a")):
+            self.assertEqual(note_of(refuse_input, name, ["gone", "b", "d/a"]), f"{name} would be written over, and is read as d/a")
+            self.assertEqual(note_of(refuse_input, "d/a", [name]), f"d/a would be written over, and is read as {name}")
+        for name in ("new", "d/b", "dangling", "gone/b"):
+            self.assertIsNone(note_of(refuse_input, name, ["gone", "b", "d/a"]))
 
     def test_place_that_is_not_there_is_a_refusal(self):
         self.put("a", b"old")
