@@ -14,7 +14,12 @@ joined s/engine.fmu/gone.fmu/
 joined 's/"N.m"/"Nm"/'
 joined 's/"load"/"loud"/'
 joined /^throttle/d
-joined 's/factor = 10 }$/factor = -10 }/'
-joined 's/factor = 10 }$/factor = -10, clip = true }/'
+joined 's/"N.m", factor = 10/&, offset = -50/'
+joined 's/"N.m", factor = 10/&, offset = -50, clip = true/'
+joined 's/factor = 10 }$/factor = 1 }/'
+joined 's/unit = "N.m", factor = 10/factor = 9/'
+joined 's/0.25/nan/'
+joined 's/"torque", unit = "N.m"/"charge_time"/'
+joined 's/= 0.01/= "10 m"/'
 CC=gone examples/make_fmu.py other.fmu 2>&1 || echo "status $?"
 rm -f engine.fmu fmu.csv my.toml

@@ -1,14 +1,21 @@
 """An engine that is an FMU: what the file that joins it says, and its steps."""
 
+import math
+from fractions import Fraction
+
 from lib.descriptions import unpacked
 from lib.fmi import VALUES
-from lib.joints import INPUTS, MOST, Joint, exact, variable_at
+from lib.joints import INPUTS, MOST, Joint, check_keys, exact, variable_at
 from lib.toml import toml_of
 from lib.tool import fail
 from lib.traces import COLUMNS, drive_of
+from lib.units import NANOSECONDS, tick_of
 
-KEYS = {"fmu": str, "drive": str, "tick": (int, float), "resets": bool, "kt": int, "inputs": dict, "outputs": dict, "start": dict}
+KEYS = {"fmu": (str, "the name of a file"), "drive": (str, "the name of a file"),
+        "tick": ((int, float, str), 'a number of seconds, or a time such as "10ms"'), "resets": (bool, "true or false"),
+        "kt": (int, "a whole number"), **dict.fromkeys(("inputs", "outputs", "start"), (dict, "a table"))}
 NEEDED = ("fmu", "drive", "tick", "inputs", "outputs")
+SHOWN = ("output", "local")  # what a variable may be for that an engine shows: no other one changes by what it is given
 
 
 def commands(drive, told):
@@ -26,7 +33,7 @@ class Engine:
     def __init__(self, name, room):
         held = checked(name)
         self.drive, self.description = drive_of(held["drive"]), unpacked(held["fmu"], room)
-        self.tick, self.resets, self.kt = exact(name, held["tick"]), held.get("resets", True), held.get("kt")
+        self.tick, self.resets, self.kt = seconds_of(name, held["tick"]), held.get("resets", True), held.get("kt")
         variables = self.description.variables
         self.inputs, self.outputs = (
             {column: Joint(f"{name}: {key}.{column}", column, told, variables) for column, told in held[key].items()}
@@ -46,14 +53,21 @@ class Engine:
         loads = {"load", "load1", "load2"} & set(self.outputs)
         if not {"position", "torque"} <= set(self.outputs) or loads not in ({"load"}, {"load1", "load2"}, set()):
             fail(f"{name}: the outputs are position, torque, and load, or load1 and load2")
-        if bool(loads) == (self.kt is not None) or self.kt is not None and self.kt < 1:
+        if loads and self.kt is not None:
+            fail(f"{name}: kt stands beside an output {min(loads)}: the load is that of the output, or by kt of the torque")
+        if not loads and (self.kt is None or self.kt < 1):
             fail(f"{name}: either an output load, or kt, above 0, is needed")
         for joint in self.inputs.values():
             if joint.variable.causality != "input":
                 fail(f"{joint.place}: {joint.variable.name} is no input of the FMU, but of the kind {joint.variable.causality}")
+        for joint in self.outputs.values():
+            if joint.variable.causality not in SHOWN:
+                fail(f"{joint.place}: {joint.variable.name} is no output of the FMU, but of the kind {joint.variable.causality}")
         for variable, value in self.start:
             if type(value) not in {"Real": (int, float), "Integer": (int,), "Boolean": (bool,)}[variable.kind]:
                 fail(f"{name}: start: {variable.name} has to be of the kind {variable.kind}")
+            if not math.isfinite(value):
+                fail(f"{name}: start: {variable.name} is {value}, which is no number to begin with")
         given = {joint.variable.name for joint in self.inputs.values()} | {variable.name for variable, _ in self.start}
         for variable in self.description.variables.values():
             if variable.causality == "input" and variable.kind in VALUES and variable.name not in given:
@@ -80,18 +94,22 @@ class Engine:
         return shown["position"] if held is None else held, *loads, shown["torque"]
 
     def notes(self):
-        """What was clipped."""
+        """What was clipped, and each factor that isn't that of the FMU's unit."""
+        yield from (joint.note for joint in [*self.inputs.values(), *self.outputs.values()] if joint.note)
         for column, joint in self.outputs.items():
             if joint.clipped:
                 yield f"{column} was out of range at {joint.clipped} ticks, first at tick {joint.first}, and counted as in range"
 
 
+def seconds_of(name, said):
+    """The seconds of a tick, told by a number or as a time."""
+    return Fraction(tick_of(f"{name}: tick", said), NANOSECONDS["s"]) if isinstance(said, str) else exact(f"{name}: tick", said)
+
+
 def checked(name):
     """What a file that joins an FMU holds, with its keys looked at."""
     held = toml_of(name)
-    for key, value in held.items():
-        if key not in KEYS or not isinstance(value, KEYS[key]) or KEYS[key] is not bool and isinstance(value, bool):
-            fail(f"{name}: {key} isn't one of {', '.join(KEYS)}, or holds something else")
+    check_keys(name, held, KEYS)
     for key in NEEDED:
         if key not in held:
             fail(f"{name}: {key} is missing")

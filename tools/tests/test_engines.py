@@ -98,6 +98,16 @@ class Answers(Engines):
         first = self.answer()[1].splitlines()[0].split(",")
         self.assertEqual(first[5:], ["500", "162", "162", "387"])  # a charge of 155; 387 needs 161.25 by 2400
 
+    def test_a_tick_may_be_a_time(self):
+        whole = self.answer()
+        for said in ('"10ms"', '"0.01 s"', '"10000us"'):
+            self.put("engine.toml", self.mapping.replace("tick = 0.01", f"tick = {said}"))
+            self.assertEqual(self.answer(), whole)
+
+    def test_a_factor_of_its_own_is_told_where_no_unit_is_said(self):
+        self.put("engine.toml", self.mapping.replace('"torque", unit = "N.m", factor = 10', '"torque", factor = 5'))
+        self.assertEqual(self.note(0), "engine.toml: outputs.torque.factor is 5, and from N.m to tenths of Nm it is 10")
+
     def test_verbose_tells_each_call(self):
         done = subprocess.run([sys.executable, f"{TOOLS}/fmu", "--verbose", "engine.toml"], input=TOLD + "0,0,1,-\n",
                               capture_output=True, text=True, check=True)
@@ -174,9 +184,20 @@ class Hostile(Engines):
                 ('name = "stages_on"', 'name = "boost_time"', "inputs.on: boost_time is no input of the FMU, but of the kind parameter"),
                 ("\non = {", "\noff = {", "no input off"), ("position =", "plate =", "no output plate"),
                 ("load =", "load1 =", "the outputs are position, torque, and load, or load1 and load2"),
-                ("tick = 0.01", "tick = 0", "tick has to be above 0"), ("tick = 0.01", "tick = nan", "nan is no number to count with"),
-                ("tick = 0.01", "tick = 0.01\nkt = 2500", "either an output load, or kt, above 0, is needed"),
-                ("tick = 0.01", "tick = true", "tick isn't one of fmu, drive, tick, resets, kt, inputs, outputs, start, or holds something else"),
+                ("tick = 0.01", "tick = 0", "tick has to be above 0"), ("tick = 0.01", "tick = nan", "tick: nan is no number to count with"),
+                ("tick = 0.01", 'tick = "10"', "tick 10 is no length of a tick, such as 10ms, 2.5ms or 0.02s, of 10 s at the most"),
+                ("tick = 0.01", "tick = 0.01\nkt = 2500", "kt stands beside an output load: the load is that of the output, or by kt of the torque"),
+                ('load = { name = "load", unit = "%", factor = 10 }', "", "either an output load, or kt, above 0, is needed"),
+                ("tick = 0.01", "tick = true", 'tick has to be a number of seconds, or a time such as "10ms"'),
+                ("tick = 0.01", "tick = 0.01\nkt = 2.5", "kt has to be a whole number"),
+                ("tick = 0.01", "tick = 0.01\nticks = 1", "ticks isn't one of fmu, drive, tick, resets, kt, inputs, outputs, start"),
+                ('"N.m", factor = 10', '"N.m", factor = 1', "outputs.torque.factor is 1, and from N.m to tenths of Nm it is 10"),
+                ('"N.m", factor = 10', '"N.m", factor = inf', "outputs.torque.factor: inf is no number to count with"),
+                ('"N.m", factor = 10', '"N.m", factor = 0', "outputs.torque.factor is 0: whatever torque is, the same would be told"),
+                ('"torque", unit = "N.m"', '"charge_time", unit = "s"', "outputs.torque: charge_time is no output of the FMU, but of the kind parameter"),
+                ('"torque", unit = "N.m"', '"ignition", unit = "%"', "outputs.torque: ignition is no output of the FMU, but of the kind input"),
+                ("boost_time = 0.25", "boost_time = nan", "start: boost_time is nan, which is no number to begin with"),
+                ("boost_time = 0.25", "boost_time = -inf", "start: boost_time is -inf, which is no number to begin with"),
                 ("tick = 0.01", "", "tick is missing"),
                 ("boost_time = 0.25", 'boost_time = "slow"', "start: boost_time has to be of the kind Real")):
             self.assertEqual(self.refused(before, after).removeprefix("engine.toml: "), said)

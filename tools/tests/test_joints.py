@@ -42,12 +42,36 @@ class Joints(unittest.TestCase):
         self.assertEqual([clipped.shown(tick, value) for tick, value in ((3, 5), (4, -1), (5, 1e300), (6, 0))], [5, 0, 65535, 0])
         self.assertEqual((clipped.clipped, clipped.first), (2, 4))
 
+    def test_a_factor_that_is_not_that_of_the_unit_is_refused_where_the_unit_is_said_and_else_told(self):
+        """By hand: 10 per mille are 1 %, 1000 are 1, 10 tenths are 1 Nm, and 9.5493 rpm are 1 rad/s."""
+        for column, unit, factor, said in (
+                ("position", "%", 10, None), ("position", "%", 1, "from % to per mille it is 10"), ("load2", "1", 1000, None),
+                ("load", "1", 1, "from 1 to per mille it is 1000"), ("torque", "N.m", 10, None),
+                ("torque", "N.m", 1, "from N.m to tenths of Nm it is 10"), ("torque", "N.m", -10, "from N.m to tenths of Nm it is 10"),
+                ("throttle", "%", 0.1, None), ("throttle", "%", 10, "from per mille to % it is 0.1"), ("pedal", "1", 0.001, None),
+                ("ignition", "%", 1, "from per mille to % it is 0.1"), ("raise", "N.m", 0.1, None),
+                ("raise", "N.m", 1, "from tenths of Nm to N.m it is 0.1"), ("speed", "rpm", 1, None),
+                ("speed", "rpm", 0.1, "from rpm to rpm it is 1"), ("speed", "rad/s", 0.10471976, None), ("speed", "rad/s", 0.1047, None),
+                ("speed", "rad/s", 0.104, "from rpm to rad/s it is 0.10472"), ("speed", "rad/s", 1, "from rpm to rad/s it is 0.10472"),
+                ("torque", "%", 7, None), ("torque", "J", 7, None), ("speed", None, 7, None), ("on", "1", 7, None)):
+            variables = {"it": SimpleNamespace(name="it", kind="Real", unit=unit)}
+            note = said and f"here.factor is {factor}, and {said}"
+            told = Joint("here", column, {"name": "it", "factor": factor}, variables)
+            self.assertEqual(told.note, note, (column, unit, factor))
+            if unit:
+                self.assertEqual(note_of(Joint, "here", column, {"name": "it", "factor": factor, "unit": unit}, variables), note)
+
     def test_what_is_no_joint(self):
         for told, said in (({"name": "text"}, "here: text is of the kind String, which is none of Real, Integer, Boolean"),
                            ({"name": "gone"}, "here: the FMU has no variable gone"),
                            ({"name": "count", "unit": "rpm"}, "here: count is in no unit by the FMU, and not in rpm"),
-                           ({"name": "share", "factor": float("nan")}, "here: nan is no number to count with"),
-                           ({"name": "share", "factor": True}, "here: factor isn't one of name, unit, factor, offset, clip, or holds something else"),
-                           ({"name": "share", "gain": 1}, "here: gain isn't one of name, unit, factor, offset, clip, or holds something else"),
+                           ({"name": "share", "factor": float("nan")}, "here.factor: nan is no number to count with"),
+                           ({"name": "share", "factor": float("inf")}, "here.factor: inf is no number to count with"),
+                           ({"name": "share", "offset": float("-inf")}, "here.offset: -inf is no number to count with"),
+                           ({"name": "share", "factor": 0}, "here.factor is 0: whatever share is, the same would be told"),
+                           ({"name": "count", "factor": -0.0}, "here.factor is 0: whatever count is, the same would be told"),
+                           ({"name": "share", "factor": True}, "here: factor has to be a number"),
+                           ({"name": "share", "clip": 1}, "here: clip has to be true or false"),
+                           ({"name": "share", "gain": 1}, "here: gain isn't one of name, unit, factor, offset, clip"),
                            ("share", 'here: a table with the variable\'s name is wanted: { name = ".." }')):
             self.assertEqual(note_of(Joint, "here", "load", told, VARIABLES), said)
