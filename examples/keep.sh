@@ -3,7 +3,7 @@ cp examples/diesel.csv my.csv
 sed 's#examples/diesel.csv#my.csv#' examples/diesel.toml >my.toml
 tools/keep kept -- egasim table --cal examples/strict.toml my.toml
 tools/keep replayed -- egasim replay <examples/measured.csv
-tools/keep refused -- egasim record my.toml nobody
+tools/keep refused -- ./egasim record my.toml nobody
 for folder in kept replayed refused; do
   (cd $folder && ls | tr '\n' ' ' && sha256sum --quiet -c kept.sum && cat command status notes)
   tools/keep --again $folder
@@ -14,4 +14,5 @@ sed 20,60d examples/diesel.csv >my.csv
 tools/keep --again kept >told || echo "status $?" && sed 's/[0-9a-f]\{64\}/SUM/g' told
 echo 1 >kept/status && tools/keep --again kept 2>&1
 tools/keep replayed -- egasim bound 2>&1
+tools/keep other -- my/egasim bound 2>&1 | cut -d, -f1
 rm -r told my.csv my.toml kept replayed refused

@@ -20,6 +20,14 @@ tools/couple --recording recording.csv --noise 2,5 'python3 resets.py' --cal $ca
 agree recording.csv 0 10
 agree recording-2.csv 41 30
 agree recording-3.csv 102 80
+# Files of an earlier call that this one doesn't write are told, and no file that is read is written over.
+couple --recording recording.csv examples/turbo.py 2>&1 >record.csv
+rm recording-2.csv recording-3.csv
+cp examples/turbo.toml my.toml && cp examples/turbo.py mine.py && cp examples/strict.toml my_cal.toml
+for file in my.toml ./mine.py my_cal.toml; do
+  tools/couple --recording $file 'python3 mine.py' --cal my_cal.toml my.toml sound 2>&1; echo "status $?"
+done
+cmp my.toml examples/turbo.toml && cmp mine.py examples/turbo.py && cmp my_cal.toml examples/strict.toml && rm my.toml mine.py my_cal.toml
 cal=examples/strict.toml
 tools/study faults examples/turbo.toml runaway all 20 >faults.toml
 for class in script offset bus plate timing wild path1-closed path2-closed path-open skip disturb flip halt lapse; do

@@ -12,6 +12,13 @@ for words in '--from 12 --to 11' '--to 1.5' --cal --form; do
   ./egasim record examples/levels.toml short | tools/draw_record $words 2>&1
 done
 tools/draw_record 2>&1 <&-
+./egasim record examples/levels.toml short >whole.csv
+head -c -2 whole.csv >cut_at_end.csv
+tools/plot picture.png cut_at_end.csv 2>&1
+tools/draw_record 2>&1 <cut_at_end.csv
+sed '$s/,[^,]*$//' whole.csv | tools/draw_record 2>&1
+cp whole.csv whole.svg && tools/plot whole.svg whole.csv ./whole.svg 2>&1
+cmp whole.csv whole.svg && rm whole.csv whole.svg cut_at_end.csv
 tools/plot picture.png cut.csv --cal examples/strict.toml 2>&1
 tools/study faults examples/sweep.toml late bus 0 >one.toml
 ./egasim table one.toml >one.csv

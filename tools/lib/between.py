@@ -1,15 +1,16 @@
 """What tools/couple puts between the unit and a partner where there are options: noise, and a recording.
 
-    between.py TOOL NOISE RECORDING PARTNER WORDS ..
+    between.py TOOL try|play NOISE RECORDING PARTNER WORDS ..
 
-NOISE and RECORDING are the words behind these options, or empty; WORDS are those of `egasim couple`. Without PARTNER the
-options alone are checked."""
+NOISE and RECORDING are the words behind these options, or empty; WORDS are those of `egasim couple`. With `try` the options
+alone are checked."""
 
 import collections
 import contextlib
 import csv
 import io
 import os
+import shlex
 import subprocess
 import sys
 import threading
@@ -19,10 +20,11 @@ sys.argv[0] = sys.argv.pop(1)  # the tool, in whose name is told what goes wrong
 sys.path.insert(0, os.path.dirname(os.path.dirname(os.path.realpath(__file__))))
 from lib.calibration import calibration_of  # noqa: E402
 from lib.campaigns import run_of  # noqa: E402
-from lib.files import write  # noqa: E402
+from lib.files import refuse_input, write  # noqa: E402
+from lib.keeping import names_of  # noqa: E402
 from lib.noise import Noise, numbers_in  # noqa: E402
 from lib.program import printed_by  # noqa: E402
-from lib.recordings import Recording  # noqa: E402
+from lib.recordings import Recording, pieces_of  # noqa: E402
 from lib.tool import TOOL, as_noted, fail, guarded  # noqa: E402
 
 
@@ -93,12 +95,24 @@ def recorded_of(calibration, campaign, run):
     return faults[0] if faults else None, int(limits["test"])
 
 
+def read_by(partner, words):
+    """The files that a call reads: the words of the partner's command that are files, and what the run is made of."""
+    try:
+        of_partner = shlex.split(partner)
+    except ValueError:  # the shell is to say what is wrong with it
+        of_partner = partner.split()
+    return [*filter(os.path.isfile, of_partner), *names_of(["record", *words], False)]
+
+
 def main():
-    noise, recording, partner, *words = sys.argv[1:]
+    way, noise, recording, partner, *words = sys.argv[1:]
     if recording and (os.path.isdir(recording) or not os.path.isdir(os.path.dirname(os.path.abspath(recording)))):
         fail(f"{recording} can't be a file")
+    if recording and way == "try":
+        for name in [recording, *pieces_of(recording)]:
+            refuse_input(name, read_by(partner, words))
     between = Between(noise, recording, words)
-    if partner:
+    if way == "play":
         status = between.run(partner)
         between.end()
         sys.exit(status)

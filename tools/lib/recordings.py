@@ -1,5 +1,6 @@
 """Recorded readings of a coupled run: what the tracks read at each tick, under the run's fault too."""
 
+import itertools
 import os
 
 HEADER = "pedal1,pedal2,plate1,plate2,load1,load2,speed1,speed2,raise,check,brake1,brake2\n"
@@ -22,6 +23,17 @@ def readings_of(answer, fault, tick):
     elif fault["class"] == "bus":
         read[RAISE] ^= fault["mask"]
     return read
+
+
+def pieces_of(name):
+    """The files NAME-2.csv, NAME-3.csv and so on, as far as they are there beside NAME.csv."""
+    return list(itertools.takewhile(os.path.lexists, (piece_of(name, number) for number in itertools.count(2))))
+
+
+def piece_of(name, number):
+    """The name of the file of the drive span of this number, from 1 on."""
+    root, ending = os.path.splitext(name)
+    return name if number == 1 else f"{root}-{number}{ending}"
 
 
 class Spans:
@@ -59,9 +71,8 @@ class Recording:
 
     def files(self):
         """The name and the text of each file."""
-        root, ending = os.path.splitext(self.name)
-        names = [self.name, *(f"{root}-{number}{ending}" for number in range(2, len(self.texts) + 1))]
-        yield from zip(names, map("".join, self.texts))
+        for number, text in enumerate(self.texts, 1):
+            yield piece_of(self.name, number), "".join(text)
 
     def notes(self, ticks):
         """What a file has, if that isn't each tick of the run; and from where on a replay may tell something else."""
@@ -70,6 +81,8 @@ class Recording:
                 yield f"{name} has the ticks {first} to {last} of the run, a drive span"
         if not self.texts:
             yield f"{self.name} wasn't written: the run has no drive span"
+        for piece in pieces_of(self.name)[max(len(self.texts) - 1, 0):]:
+            yield f"{piece} was there before, and is no part of this recording"
         if self.fault and self.fault["class"] in ON_LEVEL_2 and self.fault["onset"] < ticks:
             yield (f"{self.fault['class']} touches level 2: from tick {self.fault['onset']} of the run on a replay may tell what "
                    "level 2 doesn't")

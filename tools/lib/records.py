@@ -17,7 +17,7 @@ def record_of(name, lines):
         if not set(COLUMNS) <= set(rows.fieldnames or ()):
             fail(f"{name} is {'no record' if rows.fieldnames else 'empty'}: was the run refused?")
         # The first row of a record by `couple` has no tick: it only tells what is commanded.
-        ticks = [[*(int(row[column]) for column in COLUMNS), row.get("found") or "-"]
+        ticks = [[*(int(row[column]) for column in COLUMNS), whole(name, rows.line_num, row).get("found") or "-"]
                  for row in rows if row["torque"] != "-"]
     except (TypeError, ValueError):
         fail(f"{name} is no record: line {rows.line_num} has no numbers of a tick")
@@ -31,6 +31,19 @@ def record_of(name, lines):
         if place and tick[0] != ticks[place - 1][0] + 1:
             fail(f"{name} is no whole record: tick {tick[0]} stands below tick {ticks[place - 1][0]}")
     return dict(zip([*COLUMNS, "found"], map(list, zip(*ticks))))
+
+
+def whole(name, line, row):
+    """A row, if it has as many columns as the header."""
+    if None in row or None in row.values():
+        fail(f"{name} is no whole record: line {line} has {'more' if None in row else 'fewer'} columns than the header")
+    return row
+
+
+def check_end(name, text):
+    """Ends if the last line of what a command printed has no end, so that it may have been longer."""
+    if text and not text.endswith("\n"):
+        fail(f"{name} is cut: its last line has no end")
 
 
 def drive_of(trace):

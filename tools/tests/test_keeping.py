@@ -7,7 +7,7 @@ import subprocess
 import sys
 
 from in_folder import InFolder
-from lib.files import TOOLS
+from lib.files import TOOLS, TOP
 from lib.keeping import difference, names_of
 
 CAMPAIGN = """[[run]]
@@ -89,6 +89,23 @@ class Keeping(InFolder):
         note = "FOLDER -- egasim COMMAND .. is wanted, or --again FOLDER; --help tells more\n"
         for words in (["k"], ["k", "egasim", "run"], ["k", "--", "run"], ["k", "--", "egasim"], ["--again"], ["--again", ""], ["", "--", "egasim", "run"]):
             self.assertEqual(self.keep(*words), (1, "", note))
+
+    def test_a_path_to_the_program_is_taken_and_one_to_another_is_not(self):
+        self.put("d/egasim", "#!/bin/sh\n", 0o755)
+        os.symlink(shutil.which("echo"), "egasim")
+        os.symlink(f"{TOP}/egasim", "l-egasim")
+        for name, way in (("k", "./egasim"), ("m", os.path.abspath("egasim")), ("n", f"{TOP}/egasim")):
+            self.assertEqual(self.keep(name, "--", way, "bound"), (0, f"{name}: egasim bound: status 0\n", ""))
+            self.assertEqual((self.content(f"{name}/output"), self.keep("--again", name)[0]), ("bound\n", 0))
+        self.put("p/bin/egasim", "#!/bin/sh\n", 0o755)
+        os.makedirs("p/lib/egasim")
+        shutil.copy(shutil.which("echo"), "p/lib/egasim/egasim")
+        self.assertEqual(self.keep("p/k", "--", "p/bin/egasim", "bound", program="./p/lib/egasim/egasim")[0], 0)
+        for way in ("d/egasim", "./gone/egasim", "p/bin/egasim"):
+            self.assertEqual(self.keep("o", "--", way, "bound"),
+                             (1, "", f"{way} isn't the program that would be run, {os.path.realpath(shutil.which('echo'))}\n"))
+        for way in ("l-egasim", "echo", "", "egasim/", "/"):
+            self.assertEqual(self.keep("o", "--", way, "bound")[0], 1)
 
     def test_the_first_line_that_differs(self):
         self.assertEqual(difference(b"a\nb\n", b"a\nc\n"), "line 2 was 'b', and is 'c'")

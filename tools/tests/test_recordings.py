@@ -2,7 +2,8 @@
 
 import unittest
 
-from lib.recordings import HEADER, Recording, Spans, readings_of
+from in_folder import InFolder
+from lib.recordings import HEADER, Recording, Spans, pieces_of, readings_of
 
 ANSWER = [300, 1500, 250, 0, 1, 450, 160, 170, 0]  # pedal, speed, raise, reset, brake, position, loads, torque
 SOUND = [300, 700, 450, 550, 160, 170, 1500, 1500, 250, 65285, 1, 0]
@@ -62,7 +63,7 @@ class DriveSpans(unittest.TestCase):
         self.assertEqual(spans_of(4, [0]), [])
 
 
-class Recordings(unittest.TestCase):
+class Recordings(InFolder):
     def recorded(self, name, resets, fault_said=None, ticks=12):
         recording = Recording(name, fault_said, 3)
         for tick in range(ticks):
@@ -77,6 +78,17 @@ class Recordings(unittest.TestCase):
         self.assertTrue(all(text.startswith(HEADER) for text in files.values()))
         self.assertEqual(notes, ["my.v1.csv has the ticks 0 to 1 of the run, a drive span",
                                  "my.v1-2.csv has the ticks 6 to 7 of the run, a drive span"])
+
+    def test_pieces_of_an_earlier_call_are_told(self):
+        for name in ("r-1.csv", "r-2.csv", "r-3.csv", "r-4.csv", "r-6.csv", "r-x.csv", "or-2.csv", "r-2", "d/r-2.csv"):
+            self.put(name, "old")
+        self.assertEqual(pieces_of("r.csv"), ["r-2.csv", "r-3.csv", "r-4.csv"])
+        self.assertEqual((pieces_of("d//r.csv"), pieces_of("gone/r.csv")), (["d//r-2.csv"], []))
+        told = [f"r-{number}.csv was there before, and is no part of this recording" for number in (2, 3, 4)]
+        self.assertEqual(self.recorded("r.csv", [])[1], told)
+        self.assertEqual(self.recorded("r.csv", [2, 8])[1][2:], told[1:])
+        self.assertEqual(self.recorded("r.csv", [0], ticks=3)[1], ["r.csv wasn't written: the run has no drive span", *told])
+        self.assertEqual(self.recorded("r.csv", [0])[1], ["r.csv has the ticks 4 to 11 of the run, a drive span", *told])
 
     def test_notes_tell_where_a_replay_may_differ(self):
         self.assertEqual(self.recorded("r", [])[1], [])

@@ -5,7 +5,7 @@ import unittest
 
 from notes import note_of
 
-from lib.records import corners, part_of, record_of, stretches, thinned, tick_said
+from lib.records import check_end, corners, part_of, record_of, stretches, thinned, tick_said
 
 HEADER = "tick,torque,limit,path1,path2,on,found\n"
 
@@ -42,6 +42,18 @@ class Records(unittest.TestCase):
                 ([HEADER, "-1,0,200,1,1,1,-\n"], "r is no record: tick -1 has a number out of range"),
                 ([HEADER, "0,0\r1,200,1,1,1,-\n"], "r is no record: line 2 isn't one of CSV")):
             self.assertEqual(note_of(record_of, "r", lines), note)
+
+    def test_a_row_is_as_long_as_the_header(self):
+        lines = lines_of(0, 1)
+        for row, more in (("2,20,200,1,1,1\n", "fewer"), ("2,20,200,1,1,1", "fewer"), ("2,20,200,1,1,1,-,0\n", "more")):
+            self.assertEqual(note_of(record_of, "r", [*lines, row]), f"r is no whole record: line 4 has {more} columns than the header")
+
+    def test_a_text_that_is_cut_anywhere_in_its_last_row_is_refused(self):
+        text = "".join(lines_of(*range(12)))
+        for end in range(text.rindex("\n", 0, -1) + 2, len(text)):
+            self.assertEqual(note_of(check_end, "r", text[:end]), "r is cut: its last line has no end")
+        for whole in (text, ""):
+            self.assertIsNone(note_of(check_end, "r", whole))
 
 
 class Parts(unittest.TestCase):
