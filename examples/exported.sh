@@ -37,3 +37,19 @@ tools/measured examples/exported.toml exported.csv exported.csv 2>&1
 tools/measured examples/exported.toml gone.csv drive.csv 2>&1
 tools/measured examples/exported.toml exported.csv 2>&1
 ls
+
+# What is read stays, and what stands there still is told; so are a contact that never fits, and a time that nobody uses.
+cp examples/exported.toml drive.toml
+tools/measured drive.toml exported.csv drive.csv 2>&1
+sed 's/^gap = .*/gap = "cut"/' examples/exported_readings.toml >cut.toml
+tools/measured cut.toml exported.csv part.csv >told
+tools/measured examples/exported_readings.toml exported.csv part.csv | tail -n 2
+sed '$a brake1 = { value = 0 }\nbrake2 = { of = "brake1" }' examples/exported_readings.toml >brake.toml
+tools/measured --check brake.toml exported.csv | tail -n 3
+refused 's/^channel = "time"/&\nunit = "ms"/'
+printf 't10,P,t20,N\ns,%%,s,rpm\n0,1,0,900\n0.01,2,0.02,910\n0.02,3,0.04,920\n' >times.csv
+sed 's/"time"/"t10"/; s/APP_r1/P/; s/n_crank/N/; s/^raise.*/raise = { value = 0 }/' examples/exported.toml >times.toml
+tools/measured --check times.toml times.csv
+sed 's/"N"/"N", time = "t20"/' times.toml >both.toml
+tools/measured --check both.toml times.csv
+ls

@@ -8,9 +8,9 @@ from array import array
 from fractions import Fraction
 
 from lib.campaigns import Campaign, run_text
-from lib.files import write, written
-from lib.holding import (BEFORE, BEHIND, BETWEEN, FALLING, NO_NUMBER, ROUNDED, SAME_TIME, TOO_HIGH, TOO_LOW, TOO_OLD, Counts, Grid,
-                         Held)
+from lib.files import written
+from lib.holding import (BEFORE, BEHIND, BETWEEN, DISAGREE, FALLING, NO_COMPLEMENT, NO_NUMBER, ROUNDED, SAME_TIME, TOO_HIGH, TOO_LOW,
+                         TOO_OLD, Counts, Grid, Held)
 from lib.measurements import DECIMALS, DELIMITERS, Measurement
 from lib.tool import fail
 from lib.units import NANOSECONDS, decimal, time_told
@@ -28,6 +28,13 @@ WORDS = {
     ROUNDED: ("ticks rounded", "by {most:.3g} at most"),
     TOO_LOW: ("ticks clipped to 0", "by {most:.6g} at most"),
     TOO_HIGH: ("ticks clipped to {limit}", "by {most:.6g} at most"),
+    DISAGREE: ("ticks at which one contact says pressed, and the other doesn't", None),
+    NO_COMPLEMENT: ("ticks at which the word isn't 65535 less raise", None),
+}
+# Of a recording: the column of which it is told, the one that it is compared with, and whether their numbers fit together.
+COMPARED = {
+    DISAGREE: ("brake2", "brake1", lambda second, first: (first != 0) == (second == 0)),
+    NO_COMPLEMENT: ("check", "raise", lambda word, demand: word == 65535 - demand),
 }
 
 
@@ -42,8 +49,11 @@ class Drive:
         self.grid = Grid(self.start_of(sources), mapping.tick, mapping.times.last)
         self.held = {source.key: Held(source, self.grid) for source in sources}
         self.ticks = self.fed()
+        self.times = {self.measurement.column(source.time) for source in sources}
+        self.other_times = self.measurement.other_times(self.times, set(map(self.measurement.column, channels)))
         self.counts = {key: held.counts for key, held in self.held.items()}
         self.columns = {key: self.column(source) for key, source in mapping.sources.items()}
+        self.compare()
         self.pieces = list(self.cut(self.kept()))
 
     def samples(self, sources):
@@ -52,7 +62,7 @@ class Drive:
         for source in sources:
             group = groups.setdefault(self.measurement.column(source.time), (source.time, []))
             group[1].append((source, self.measurement.column(source.channel)))
-        for line, cells in self.measurement.rows(groups):
+        for line, cells in self.measurement.rows(groups, times):
             for place, (channel, members) in groups.items():
                 if not cells[place] and not any(cells[column] for _, column in members):
                     continue
@@ -122,6 +132,15 @@ class Drive:
                 counts.add(TOO_LOW, self.grid.time(tick), 1, value - source.complement)
         return array("q", [max(0, source.complement - value) for value in values])
 
+    def compare(self):
+        """Counts the ticks at which two columns don't fit together."""
+        for what, (key, other, fits) in COMPARED.items():
+            if key in self.columns:
+                counts = self.counts.setdefault(key, Counts())
+                for tick, numbers in enumerate(zip(self.columns[key], self.columns[other])):
+                    if not fits(*numbers):
+                        counts.add(what, self.grid.time(tick))
+
     # Where it is cut
 
     def gaps(self):
@@ -182,6 +201,8 @@ class Drive:
         for name, (begin, end) in zip(names, self.pieces):
             yield (f"{name}: {end - begin} tick{'s' * (end - begin > 1)} of {time_told(self.grid.tick)}, from {told_at(self.grid.time(begin))} to "
                    f"{told_at(self.grid.time(end - 1))}")
+        for channel in self.other_times:
+            yield f"{channel}: looks like a column of time, and no channel has its times; time = \"{channel}\" of a key says so"
         left = self.ticks - sum(end - begin for begin, end in self.pieces)
         if left:
             yield f"ticks left out, held too long: {left}; the first at {told_at(self.grid.time(self.gaps()[0][0]))}"
@@ -191,7 +212,8 @@ class Drive:
 
     def origin(self, source):
         if source.channel is not None:
-            return f"{source.key}: {source.channel}; samples: {self.held[source.key].samples}"
+            at = f" at {source.time}" if len(self.times) > 1 or self.other_times else ""
+            return f"{source.key}: {source.channel}{at}; samples: {self.held[source.key].samples}"
         if source.value is not None:
             return f"{source.key}: {source.value}"
         return f"{source.key}: {source.of}" if source.complement is None else f"{source.key}: {source.complement} less {source.of}"
@@ -230,9 +252,3 @@ def campaigns_of(drive, name, traces):
         sound = f"# sound: {' '.join(campaign.rows)}\n" if drive.mapping.run["is_sound"] else ""
         yield f"{name}.toml" if len(campaigns) == 1 else f"{name}-{place}.toml", sound + "".join(campaign.texts)
 
-
-def put_campaigns(drive, name, traces):
-    """Writes the campaigns, and returns what is told of each."""
-    for file, text in campaigns_of(drive, name, traces):
-        write(file, text.encode())
-        yield f"{file}: runs {text.count('[[run]]')}"

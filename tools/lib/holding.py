@@ -8,6 +8,7 @@ from types import SimpleNamespace
 NO_NUMBER, FALLING, SAME_TIME = "no number", "time falls", "same time"
 BEFORE, BETWEEN, BEHIND = "before", "between", "behind"
 TOO_OLD, ROUNDED, TOO_LOW, TOO_HIGH = "too old", "rounded", "too low", "too high"
+DISAGREE, NO_COMPLEMENT = "disagree", "no complement"
 
 
 class Counts:

@@ -17,6 +17,9 @@ COLUMNS = {
 HEADERS = {"trace": (3, 4, 5), "recording": (10, 12)}  # how many columns there may be
 MOST = {"pedal": 1000, "speed": 8000, "raise": 10000, "reset": 1, "brake": 1}  # of a trace
 MOST_READ = 65535  # of a recording
+MOST_NUMBER = 10**18  # of what a mapping says
+# What a column is made of where it wasn't measured, if the other one of its pair was: of a recording.
+PAIRS = {"pedal": ", complement = 1000", "plate": ", complement = 1000", "load": "", "speed": "", "brake": ", complement = 1"}
 ROUNDINGS = ("nearest", "down", "up")
 TOP = ("makes", "tick", "age", "gap", "file", "time", "keys", "cut", "run")
 OF_CHANNEL = ("channel", "time", "factor", "offset", "round", "age", "texts")
@@ -63,7 +66,8 @@ def number_of(name, place, value):
     """A number of the mapping, as exact as it is written; a text may be a fraction, such as 1000/4095."""
     try:
         if type(value) in (int, float) or isinstance(value, str) and len(value) < 40 and "e" not in value.lower():
-            return Fraction(str(value))
+            number = Fraction(str(value))
+            return number if abs(number) < MOST_NUMBER else fail(f"{name}: {place} is out of range: less than 10^18, please")
     except (ValueError, ZeroDivisionError):
         pass
     return fail(f'{name}: {place} must be a number, or a text such as "1000/4095"')
@@ -84,13 +88,14 @@ def times_of(name, table):
     """The column of time, its unit in nanoseconds, the times of the first and the last tick, and what becomes of times
     that fall."""
     known(name, "time", table, ("channel", "unit", "from", "to", "falling"))
-    unit = NANOSECONDS[one_of(name, "time.unit", table.get("unit", "s"), tuple(NANOSECONDS))]
+    said = one_of(name, "time.unit", table.get("unit", "s"), tuple(NANOSECONDS))
+    unit = NANOSECONDS[said]
     ends = {key: number_of(name, f"time.{key}", table[key]) * unit if key in table else None for key in ("from", "to")}
     for key, time in ends.items():
         if time is not None and (time.denominator != 1 or abs(time) >= 10**18):
             fail(f"{name}: time.{key} isn't a whole number of nanoseconds below 10^18")
     leaves = one_of(name, "time.falling", table.get("falling", "refuse"), ("refuse", "leave")) == "leave"
-    return SimpleNamespace(channel=channel_of(name, "time.channel", table.get("channel")), unit=unit, leaves=leaves,
+    return SimpleNamespace(channel=channel_of(name, "time.channel", table.get("channel")), unit=unit, said=said, leaves=leaves,
                            first=ends["from"] and int(ends["from"]), last=ends["to"] and int(ends["to"]))
 
 
@@ -110,16 +115,27 @@ def sources_of(mapping, table):
     known(name, f"keys of a {mapping.makes}", table, needed + others)
     for key in needed:
         if key not in table:
-            fail(f"{name}: keys has no {key}, which a {mapping.makes} needs; {key} = {{ value = 0 }} writes 0")
+            fail(f"{name}: keys has no {key}, which a {mapping.makes} needs; {key} = {advised(key, table)}")
     keys = [key for key in needed + others if key in table]
     if len(keys) not in HEADERS[mapping.makes] or keys != list((needed + others)[:len(keys)]):
-        fail(f"{name}: keys has {keys[-1]} without {others[1] if keys[-1] == others[0] else others[0]}; "
-             f"a header is {','.join(needed + others)}")
+        other = others[1] if keys[-1] == others[0] else others[0]
+        advice = f"{other} = {advised(other, table)}; " if mapping.makes == "recording" else ""
+        fail(f"{name}: keys has {keys[-1]} without {other}; {advice}a header is {','.join(needed + others)}")
     sources = {key: source_of(mapping, key, table[key]) for key in keys}
     for key, source in sources.items():
         if source.of is not None and (source.of not in sources or sources[source.of].of is not None):
             fail(f"{name}: keys.{key}.of must be a key that has a channel or a value")
     return sources
+
+
+def advised(key, table):
+    """What a column that wasn't measured may be, and what that writes."""
+    if key == "check":
+        return '{ of = "raise", complement = 65535 } writes the word of a raise that is read rightly'
+    other = key[:-1] + ("2" if key.endswith("1") else "1")
+    if key[:-1] in PAIRS and (other in table or key.endswith("2")):
+        return f'{{ of = "{other}"{PAIRS[key[:-1]]} }} writes what fits to {other}'
+    return "{ value = 0 } writes 0"
 
 
 def source_of(mapping, key, table):
@@ -157,6 +173,8 @@ def add_channel(mapping, place, table, source):
     source.channel = channel_of(name, f"{place}.channel", table["channel"])
     source.time = channel_of(name, f"{place}.time", table.get("time", mapping.times.channel))
     source.factor = number_of(name, f"{place}.factor", table.get("factor", 1))
+    if not source.factor:
+        fail(f"{name}: {place}.factor is 0, by which nothing of the channel stays; {{ value = N }} writes a constant")
     source.offset = number_of(name, f"{place}.offset", table.get("offset", 0))
     source.round = one_of(name, f"{place}.round", table.get("round", "nearest"), ROUNDINGS)
     source.age = age_of(name, f"{place}.age", table["age"]) if "age" in table else mapping.age

@@ -11,6 +11,9 @@ from lib.tool import fail
 
 MOST_ABOVE, MOST_BELOW, MOST_NAMED = 200, 20, 20  # lines above the names, and of units below them; names that are told
 NUMBER = re.compile(r"[+-]?(?:[0-9]{1,40}(?:\.[0-9]{0,40})?|\.[0-9]{1,40})(?:[eE][+-]?[0-9]{1,2})?")
+LONG_NUMBER = re.compile(r"[+-]?(?:[0-9]+(?:\.[0-9]*)?|\.[0-9]+)(?:[eE][+-]?[0-9]+)?")
+UNITS_OF_TIME = {"s": "s", "sec": "s", "ms": "ms", "msec": "ms", "us": "us", "\u00b5s": "us", "\u03bcs": "us", "ns": "ns"}
+NAME_OF_TIME = re.compile(r"(t|time|timestamps?)([_ ]?[0-9].*)?", re.I)
 WITH_SIGN = re.compile(r"[+-]?[0-9]*([.,])[0-9]+(?:[eE][+-]?[0-9]+)?")
 NO_NUMBER = re.compile(r"[+-]?(nan(\(\w*\))?|1\.#(qnan|snan|ind|inf)\d*|inf|infinity|#?n/a|null)", re.I)
 DELIMITERS, DECIMALS = {",": "comma", ";": "semicolon", "\t": "tab"}, {".": "point", ",": "comma"}
@@ -26,7 +29,7 @@ class Measurement:
         self.content = read(name)
         self.encoding = encoding_of(name, self.content, form.encoding)
         self.delimiter, self.names = self.found(list(dict.fromkeys(channels)))
-        self.decimal, self.rows_of_units = form.decimal, 0
+        self.decimal, self.rows_of_units, self.units = form.decimal, 0, {}
 
     def lines(self, delimiter, most=None):
         """The lines of the file, as CSV has them: (number, cells)."""
@@ -71,9 +74,10 @@ class Measurement:
             fail(f"{self.name}: line {line} has {channel} in the columns {', '.join(map(str, places))}; say one by its number")
         return places[0] - 1
 
-    def rows(self, times):
+    def rows(self, times, said=None):
         """The lines below the names and units: (number, cells), without blanks around them. `times` are the columns of
-        time: a line of units is one of the first in which none of these has a number."""
+        time: a line of units is one of the first in which none of these has a number. If it has another unit of time there
+        than was said, it is refused."""
         above, has_begun, self.rows_of_units = self.names[0], False, 0
         for number, row in self.lines(self.delimiter):
             if number <= above or not any(row):
@@ -81,6 +85,7 @@ class Measurement:
             cells = [cell.strip() for cell in row]
             if not has_begun and not any(map(self.number_like, (cells[place] for place in times if place < len(cells)))):
                 self.rows_of_units += 1
+                self.take_units(number, cells, times if said else (), said)
                 if self.rows_of_units > MOST_BELOW:
                     fail(f"{self.name}: none of the first {MOST_BELOW} lines below the names has a number as its time")
                 continue
@@ -89,6 +94,30 @@ class Measurement:
                      "that of decimals?")
             has_begun = True
             yield number, cells + [""] * (len(self.names[1]) - len(cells))
+
+    def take_units(self, line, cells, times, said):
+        """Keeps which columns have a unit of time, by what a line of units says."""
+        units = {place: UNITS_OF_TIME.get(cell.strip("[]()").lower()) for place, cell in enumerate(cells)}
+        self.units.update({place: unit for place, unit in units.items() if unit})
+        for place in times:
+            if units.get(place) not in (None, said.said):
+                fail(f"{self.name}: line {line} has {cells[place]} as the unit of {self.names[1][place]}, and time.unit is {said.said}"
+                     f"{', as it is if none is said' * (said.said == 's')}")
+
+    def other_times(self, times, used):
+        """The names of columns beside the used ones that look like times: by their unit or name, and since they never fall."""
+        names = {place: name for place, name in enumerate(self.names[1]) if place not in used and name}
+        found = [place for place in names if place in self.units or not self.units and NAME_OF_TIME.fullmatch(names[place])]
+        latest = {place: [] for place in found}
+        for _, cells in self.rows(times) if found else ():
+            for place in [place for place in latest if cells[place]]:
+                said = cells[place].replace(",", ".", 1)
+                time = Decimal(said) if NUMBER.fullmatch(said) else None
+                if time is None or latest[place] and time < latest[place][-1]:
+                    del latest[place]
+                elif time not in latest[place][-1:]:
+                    latest[place] = [*latest[place][:1], time]
+        return [names[place] for place, times in latest.items() if len(times) > 1]
 
     def number_like(self, text):
         """Whether a text is a number with either decimal sign."""
@@ -105,6 +134,9 @@ class Measurement:
             return "nan"
         if not text or text in self.form.empty:
             return None
+        if LONG_NUMBER.fullmatch(said) and not NUMBER.fullmatch(said):
+            fail(f"{self.name}: line {line}: {channel} has {text[:40]}, which is out of range: at most 40 digits before and behind the "
+                 "decimal sign, and 2 of an exponent")
         sign = self.decimal or "."
         return fail(f"{self.name}: line {line}: {channel} has {text[:40]}, which is no number with the decimal sign {sign}")
 
@@ -114,7 +146,9 @@ class Measurement:
         if said in (None, "nan"):
             return None
         time = int(EXACT.multiply(Decimal(said), Decimal(unit)).to_integral_value(ROUND_HALF_UP, EXACT))
-        return time if abs(time) < MOST_TIME else fail(f"{self.name}: line {line}: {channel} has {text}, which is no time")
+        return time if abs(time) < MOST_TIME else fail(
+            f"{self.name}: line {line}: {channel} has {text}, which is out of range: times are below 10^9 s; is time.unit right, or "
+            "is it a date? Then count from the first one")
 
 
 def encoding_of(name, content, encoding):

@@ -219,6 +219,34 @@ class Worked(InFolder):
         low = drive.counts["pedal2"].of["too low"]
         self.assertEqual((low.count, low.first, low.most), (2, 10 * MS, 5))
 
+    def test_contacts_and_check_words_that_do_not_fit_are_counted(self):
+        pairs = ("pedal", "plate", "load", "speed")
+        keys = "[keys]\n" + "".join(f"{pair}{track} = {{ value = 0 }}\n" for pair in pairs for track in (1, 2)) + (
+            'raise = { channel = "r" }\ncheck = { channel = "c" }\nbrake1 = { channel = "b" }\nbrake2 = { channel = "d" }\n')
+        head, rows = HEAD.replace("trace", "recording"), ["0,0,65535,0,1", "10,7,65528,1,0", "20,7,7,9,0", "30,0,65535,0,0", "40,5,65531,1,2"]
+        counts = self.drive(rows, head + keys, "t,r,c,b,d").counts
+        self.assertEqual([(one.count, one.first) for one in (counts["brake2"].of["disagree"], counts["check"].of["no complement"])],
+                         [(2, 30 * MS), (2, 20 * MS)])
+        for change, ticks in (('{ of = "brake1" }', 5), ('{ of = "brake1", complement = 1 }', None)):
+            told = list(self.drive(rows, head + keys.replace('{ channel = "d" }', change), "t,r,c,b,d").told(["o.csv"]))
+            line = f"  ticks at which one contact says pressed, and the other doesn't: {ticks}; the first at 0 s"
+            self.assertEqual([line] if ticks else [], [one for one in told if "contact" in one])
+        told = list(self.drive(rows, head + keys.replace('{ channel = "c" }', '{ of = "raise" }'), "t,r,c,b,d").told(["o.csv"]))
+        self.assertIn("  ticks at which the word isn't 65535 less raise: 5; the first at 0 s", told)
+
+    def test_columns_of_time_are_told_where_there_are_several(self):
+        rows = ["ms,%,ms,%", "0,1,0,1", "10,2,20,2", "20,3,40,3"]
+        for said, lines in (("", ['u: looks like a column of time, and no channel has its times; time = "u" of a key says so',
+                                  "pedal: p at t; samples: 3"]),
+                            (', time = "u"', ["pedal: p at u; samples: 3"])):
+            keys = KEYS.replace("value = 0", 'channel = "q"').replace('"p"', f'"p"{said}')
+            told = list(self.drive(rows, HEAD + keys, "t,p,u,q").told(["o.csv"]))
+            for line in lines:
+                self.assertIn(line, told)
+            self.assertIn("raise: q at t; samples: 3", told)
+        self.assertIn("pedal: p; samples: 3", list(self.drive(["0,1", "10,2", "20,3"]).told(["o.csv"])))
+        self.assertRegex(self.note(["s,%", "0,1"]), "^m.csv: line 2 has s as the unit of t, and time.unit is ms$")
+
     def test_times_that_fall_are_refused(self):
         self.assertEqual(self.note(["0,1", "20,2", "10,3"]), 'm.csv: line 4: t falls from 0.02 s in line 3 to 0.01 s; falling = "leave" '
                          "leaves such samples out")

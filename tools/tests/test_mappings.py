@@ -79,12 +79,34 @@ class Mappings(InFolder):
                 (("value = 800", 'of = "brake"'), "keys.speed.of must be a key that has a channel or a value"),
                 (("value = 800", 'of = "speed"'), "keys.speed.of must be a key that has a channel or a value"),
                 (('"p"', '"p", edge = true'), "keys.pedal has no key edge; its keys are channel, time, factor, offset, round, age, texts"),
+                (('"p"', '"p", factor = 0'), "keys.pedal.factor is 0, by which nothing of the channel stays; { value = N } writes a constant"),
+                (('"p"', '"p", factor = 1e308'), "keys.pedal.factor is out of range: less than 10^18, please"),
+                (('"p"', '"p", offset = -1e18'), "keys.pedal.offset is out of range: less than 10^18, please"),
                 (('"p"', '"p", round = "half"'), "keys.pedal.round must be one of nearest, down, up"),
                 (('"p"', '"p", age = 10'), 'keys.pedal.age must say beyond what age a value is a gap, such as "100ms"'),
                 (('"p"', '"p", texts = { on = "x" }'), 'keys.pedal.texts.on must be a number, or a text such as "1000/4095"')):
             self.assertEqual(self.note(HEAD + TIME + KEYS.replace(*change)), note)
         self.assertEqual(self.note(HEAD + TIME + KEYS + "brake = { value = 0 }\n"),
                          "keys has brake without reset; a header is pedal,speed,raise,reset,brake")
+
+    def test_second_tracks_are_advised_as_they_read(self):
+        ways = {"pedal2": '{ of = "pedal1", complement = 1000 } writes what fits to pedal1',
+                "pedal1": '{ of = "pedal2", complement = 1000 } writes what fits to pedal2',
+                "plate2": '{ of = "plate1", complement = 1000 } writes what fits to plate1',
+                "load2": '{ of = "load1" } writes what fits to load1', "speed2": '{ of = "speed1" } writes what fits to speed1',
+                "speed1": '{ of = "speed2" } writes what fits to speed2', "raise": "{ value = 0 } writes 0",
+                "check": '{ of = "raise", complement = 65535 } writes the word of a raise that is read rightly'}
+        head, lines = HEAD.replace("trace", "recording") + TIME, {key: f"{key} = {{ value = 1 }}\n" for key in COLUMNS["recording"][0]}
+        for key, way in ways.items():
+            text = head + "[keys]\n" + "".join(line for other, line in lines.items() if other != key)
+            self.assertEqual(self.note(text), f"keys has no {key}, which a recording needs; {key} = {way}")
+        text = head + "[keys]\n" + "".join(lines.values())
+        for key, other in (("brake1", "brake2"), ("brake2", "brake1")):
+            self.assertEqual(self.note(f"{text}{key} = {{ value = 1 }}\n"),
+                             f'keys has {key} without {other}; {other} = {{ of = "{key}", complement = 1 }} writes what fits to {key}; '
+                             f"a header is {','.join(sum(COLUMNS['recording'], ()))}")
+        none = head + "[keys]\n" + "".join(line for key, line in lines.items() if not key.startswith("pedal"))
+        self.assertEqual(self.note(none), "keys has no pedal1, which a recording needs; pedal1 = { value = 0 } writes 0")
 
     def test_what_cuts_and_runs_may_not_say(self):
         for more, note in (

@@ -51,10 +51,31 @@ class Forms(InFolder):
             self.assertEqual(self.values(f"time;p\n1;{text}\n")[1], [["1", "nan"]], text)
         for text in ("", "  ", "-", "n.a."):
             self.assertEqual(self.values(f"time;p\n1;{text}\n", empty={"-", "n.a."})[1], [["1", None]])
-        for text, sign in (("-", "."), ("0x10", "."), ("1_000", "."), ("1 000", "."), ("\u0661", "."), ("1e100", "."), ("1.000,5", "."),
+        for text, sign in (("-", "."), ("0x10", "."), ("1_000", "."), ("1 000", "."), ("\u0661", "."), ("1.000,5", "."),
                            ("abc", "."), ("nano", "."), ("--1", ".")):
             self.assertEqual(note_of(self.values, f"time;p\n1;{text}\n"),
                              f"m.csv: line 2: p has {text}, which is no number with the decimal sign {sign}")
+
+    def test_numbers_out_of_range_are_told_as_that(self):
+        for text in ("1e300", "-1.5e-100", "1" * 41, "0,5e100"):
+            self.assertEqual(note_of(self.values, f"time;p\n1;{text}\n"),
+                             f"m.csv: line 2: p has {text[:40]}, which is out of range: at most 40 digits before and behind the decimal "
+                             "sign, and 2 of an exponent")
+
+    def test_unit_of_time_is_the_one_that_was_said(self):
+        for unit, said, note in (("s", "s", None), ("[ms]", "ms", None), ("\u00b5s", "us", None), ("f8", "s", None), ("km/h", "s", None),
+                                 ("ms", "s", "ms"), ("s", "ms", "s"), ("(us)", "ns", "(us)")):
+            found = self.measurement(f"time;p\n{unit};%\n1;2\n")
+            self.assertEqual(note_of(list, found.rows([0], SimpleNamespace(said=said))), note and
+                             f"m.csv: line 2 has {note} as the unit of time, and time.unit is {said}{', as it is if none is said' * (said == 's')}")
+
+    def test_other_times_have_such_a_unit_or_name_and_never_fall(self):
+        rows = "1;0;1;9;5;0.5\n2;;1;8;6;0.5\n3;0.5;2;7;x;0.5\n4;0.5;;6;7;0.5\n"
+        for head, others in (("time;t2;ms;down;text;one\ns;s;ms;s;s;s\n", ["t2", "ms"]), ("time;t2;p;down;text;one\ns;%;s;s;-;s\n", ["p"]),
+                             ("time;time_2;p;t3;t4;t5\n", ["time_2"]), ("time;temp;Timestamps;t3;t4;t5\n", ["Timestamps"])):
+            found = self.measurement(head + rows, ("time",))
+            self.assertEqual(len(list(found.rows([0], SimpleNamespace(said="s")))), 4)
+            self.assertEqual((found.other_times([0], {0}), found.other_times([0], {0, 1, 2})), (others, []))
 
     def test_decimal_sign_is_one(self):
         self.assertEqual(note_of(self.values, "time;p\n1;0,5\n2;1.5\n"), "m.csv: line 3: p has 1.5, which is no number with the decimal sign ,")
@@ -66,7 +87,8 @@ class Forms(InFolder):
         for text, unit, time in (("0.30000000000000004", 10**9, 3 * 10**8), ("0.0000000005", 10**9, 1), ("-0.0000000005", 10**9, -1),
                                  ("0.00000000049", 10**9, 0), ("1e3", 10**6, 10**9), ("", 1, None), ("NaN", 1, None)):
             self.assertEqual(found.time(2, "time", text, unit), time)
-        self.assertEqual(note_of(found.time, 2, "time", "1e9", 10**9), "m.csv: line 2: time has 1e9, which is no time")
+        self.assertEqual(note_of(found.time, 2, "time", "1e9", 10**9), "m.csv: line 2: time has 1e9, which is out of range: times are below "
+                         "10^9 s; is time.unit right, or is it a date? Then count from the first one")
 
     def test_names_that_are_not_there(self):
         for content, channels, note in (
