@@ -9,7 +9,7 @@ said '/<section id="table">/,/id="margins"/{/<th scope="row">/p}; /<section id="
 sed -n '/<section id="sweeps">/,/<section id="pictures">/{/<th scope="row">\(skip\|lapse\)/p; s/.*<desc[^>]*>\(.*\)<.desc>/\1/p}' page.html
 sed -n '/<section id="pictures">/,/<section id="assumptions">/{/<th scope="row"/p; s/.*>\(tick, [^<]*\)<.*/\1/p; s/.*>\(torque, [^<]*\)<.*/\1/p}' page.html
 grep -c "<code>$(sha256sum <own/units.toml | sed 's/ .*//')</code>" page.html
-tools/report examples/sweep.toml --cal own/strict.toml --tolerant 20 --falls 0 --tick 2.5ms | said '/one listed fault an excess lasts/p'
+tools/report examples/sweep.toml --cal examples/strict.toml --tolerant 57.5ms --falls 0 --tick 2.5ms | said '/one listed fault an excess lasts/p'
 tools/report examples/sweep.toml --cal examples/strict.toml --tolerant 20 --falls 0 | said '/one listed fault an excess lasts/p'
 
 ./egasim record examples/levels.toml short | tools/draw_record --tick 10ms | sed -n 's/<[^>]*>\([0-9].*\|tick.*\)<.text>/\1/p' | paste -s -d ' '
@@ -18,7 +18,7 @@ sed -i 's/to = [0-9]*, step = [0-9]*/to = 60, step = 10/; s/^draw = .*/draw = 5/
 tools/study plan.toml study && cat study/inputs/units.toml
 if command -v make >/dev/null; then make -s -C study; else study/slurm; fi
 tools/study join study
-tools/study join study --tick 1s | head -n 2
+tools/study join study --tick 1s 2>&1
 
 for words in '--tick 0ms' '--tick 10' --tick; do tools/report examples/sweep.toml $words 2>&1; done
 tools/study join study --tack 1s 2>&1

@@ -4,7 +4,7 @@ from dataclasses import dataclass
 
 from lib.toml import toml_of, toml_text
 from lib.tool import fail
-from lib.units import tick_of, time_of, Units, units_of
+from lib.units import time_of, units_of
 
 TIMES = ("reaction", "lapse", "excess", "test", "spacing", "stretch")  # lines of `limits` in ticks
 LIMITS = (*TIMES, "verdicts", "peak")
@@ -32,15 +32,16 @@ class Entry:
 
 
 class Expected:
-    """A file of expectations. How long a tick is stands behind --tick, in the file, or beside the calibration."""
+    """A file of expectations. How long a tick is stands behind --tick, in the file, or beside the calibration, and is the same
+    wherever it stands."""
 
     def __init__(self, name, tick):
-        held = toml_of(name)
+        self.name, held = name, toml_of(name)
         only(name, held, ("campaign", "calibration", "tick", "limits", "expect", "recording"))
         self.campaign = file_of(f"{name}: campaign", held.get("campaign"))
         self.calibration = file_of(f"{name}: calibration", held.get("calibration"))
-        is_own = "tick" in held and tick is None
-        self.units = Units(tick_of(f"{name}: tick", held["tick"])) if is_own else units_of(tick, [self.calibration])
+        own = (f"{name}: tick", held["tick"]) if "tick" in held else None
+        self.units = units_of(tick, [self.calibration], own)
         self.limits = list(limits_of(f"{name}: limits", self.units, held.get("limits", {})))
         self.runs = [self.entry(place, table, "run") for place, table in tables_of(name, held, "expect")]
         self.recordings = [self.entry(place, table, "file") for place, table in tables_of(name, held, "recording")]

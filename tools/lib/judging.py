@@ -3,16 +3,18 @@ that the program prints."""
 
 import csv
 import fnmatch
+import functools
 import io
 import re
 from dataclasses import dataclass, field
 
-from lib.calibration import weight_limits_of
+from lib.calibration import threshold_of, weight_limits_of
 from lib.campaigns import runs_of_campaign
 from lib.program import printed_by
-from lib.records import drive_of
-from lib.runs import unsettled
+from lib.records import drive_of, record_of
+from lib.runs import excess_of, unsettled
 from lib.tool import fail
+from lib.units import beside
 from lib.verdicts import cut_by, idle_by
 
 FOUND = re.compile(r"(pedal|plate|load|speed|torque) (?:none|at (\d+)); greatest (\d+) of (\d+)")
@@ -30,16 +32,29 @@ class Verdict:
 @dataclass
 class Shown:
     """What a run or a recording shows: its row of `table`, what each watch weighs, of which limit; the ticks of its drive,
-    and those at which that resets the unit."""
+    those at which that resets the unit, those with an excess, and why it doesn't show how long its longest excess lasts."""
     row: dict
     weights: dict = field(default_factory=dict)
     ticks: int = 0
     resets: tuple = ()
+    excess: object = list  # is called only where the row leaves it open whether an excess stands at an end
+    hidden: str = ""
 
     def is_late(self):
         """Whether the fault comes when the stages are off for good, so that the run shows nothing of it."""
         return bool(self.row["onset"] and self.row["cut"]
                     and max(int(self.row["cut_at"]), int(self.row["last_on"] or -1)) < int(self.row["onset"]))
+
+    def too_soon(self):
+        """Why it ends too soon to show what comes of its last excess; None if it doesn't."""
+        said, last_on = "it ends too soon to show that", int(self.row["last_on"] or -1)
+        if self.row["settled"] == "0":
+            return said
+        ends = [tick - 1 for tick in (*self.resets, self.ticks) if 0 < tick <= last_on + 1]
+        excess = self.excess() if ends and self.row["stretch"] != "0" else []
+        within = next((tick for tick in ends if excess[tick:tick + 1] == [True]), None)
+        where = "its last tick" if within == self.ticks - 1 else "right before a reset"
+        return None if within is None else f"{said}: at {within}, {where}, there is an excess"
 
     def is_in_a_test(self):
         """Whether what the table has for the first cut is a mirror in a start-up test, which cuts no drive."""
@@ -60,8 +75,17 @@ def verdicts(expected, is_strict):
         yield from run_verdicts(expected, calibration, is_strict)
     for entry in expected.recordings:
         for name in entry.names:
-            shown = recording_shown(printed_by("replay", *calibration, readings=name))
+            excess = functools.cache(lambda name=name: excess_in_signals(printed_by("signals", *calibration, readings=name)))
+            shown = recording_shown(printed_by("replay", *calibration, readings=name), excess)
             yield from (verdict(name, check, shown, expected.units) for check in entry.checks)
+
+
+def inputs_of(expected):
+    """The files that verdicts on these expectations are drawn from."""
+    runs = runs_of_campaign(expected.campaign).values() if expected.campaign else []
+    named = [expected.name, expected.calibration, expected.campaign, *(run[key] for run in runs for key in ("trace", "image"))]
+    units = beside(expected.calibration) if expected.calibration else None
+    return [name for name in [*named, units, *(name for entry in expected.recordings for name in entry.names)] if name]
 
 
 def limit_verdicts(expected, calibration):
@@ -104,26 +128,40 @@ def shown_runs(expected, calibration):
         name, trace = row["run"], runs[row["run"]]["trace"]
         drives[trace] = drives.get(trace) or drive_of(trace)
         weights = {watch: (int(margins[name][watch]), limit) for watch, limit in limits.items()}
-        shown[name] = Shown(row, weights, *drives[trace])
+        excess = functools.cache(lambda name=name: excess_in_run(expected, calibration, name))
+        shown[name] = Shown(row, weights, *drives[trace], excess)
     return shown
+
+
+def excess_in_run(expected, calibration, name):
+    """Whether each tick of a run has a true excess."""
+    record = record_of(name, io.StringIO(printed_by("record", *calibration, expected.campaign, name)))
+    return excess_of(record, threshold_of(expected.calibration))
+
+
+def excess_in_signals(text):
+    """Whether each tick of a recording has an excess."""
+    return [row["excess"] == "1" for row in csv.DictReader(io.StringIO(text))]
 
 
 def table_of(*words):
     return list(csv.DictReader(io.StringIO(printed_by(*words))))
 
 
-def recording_shown(text):
+def recording_shown(text, excess=list):
     """What `replay` tells of a recording, in columns of `table`. In the unit the stages would go off a tick after the trip."""
     lines = text.splitlines()
+    ticks = int(lines[0].split()[1])
     matches = [FOUND.fullmatch(line) for line in lines[1:6]]
     found = sorted((int(match[2]), place, match[1]) for place, match in enumerate(matches) if match[2])
     trip = lines[6].split()[-1]
     cut = next((watch for tick, _, watch in found if watch != "pedal" and str(tick) == trip), "")
-    row = dict.fromkeys(("acted", "onset", "first", "first_at", "cut", "cut_at", "off_at", "settled", "trap"), "")
-    row |= {"class": "none", "last_on": "0", "stretch": lines[7].split()[1]}
+    row = dict.fromkeys(("acted", "onset", "first", "first_at", "cut", "cut_at", "off_at", "confirmed", "settled", "trap"), "")
+    row |= {"class": "none", "last_on": str(ticks - 1), "stretch": lines[7].split()[1]}
     row |= {"cut": cut, "cut_at": trip, "off_at": str(int(trip) + 1)} if cut else {}
     row |= {"first": found[0][2], "first_at": str(found[0][0])} if found else {}
-    return Shown(row, {match[1]: (int(match[3]), int(match[4])) for match in matches})
+    weights = {match[1]: (int(match[3]), int(match[4])) for match in matches}
+    return Shown(row, weights, ticks, (), excess, f"{cut} trips at {trip}, and from there on a replay tells no excess" if cut else "")
 
 
 def verdict(subject, check, shown, units):
@@ -143,7 +181,7 @@ def lasts(units, ticks):
 def sound(shown, _, __):
     if shown.row["class"] not in ("none", "lapse"):
         return False, f"it has a fault, {shown.row['class']}"
-    why = not_driven(shown) or cut_said(shown.row)
+    why = not_driven(shown) or cut_said(shown.row) or shown.too_soon()
     return not why, why or "no watch finds anything"
 
 
@@ -160,7 +198,7 @@ def cut_said(row):
 
 
 def room(shown, wanted, _):
-    why = not_driven(shown) or shown.cut_said()
+    why = not_driven(shown) or shown.cut_said() or shown.too_soon()
     if why:
         return False, why
     left, watch = min((100 * (limit - weight) / limit, watch) for watch, (weight, limit) in shown.weights.items())
@@ -171,8 +209,9 @@ def room(shown, wanted, _):
 def cut(shown, allowed, _):
     row = shown.row
     if not allowed:
-        why = not_driven(shown, stops=False) or shown.cut_said()
-        return not why, why or "it isn't cut"
+        why = not_driven(shown, stops=False) or shown.cut_said() or shown.too_soon()
+        traps = f", and level 1 traps at {row['trap_at']}" if row["trap"] else ""
+        return not why, why or f"it isn't cut{traps}"
     name = "first" if row["first"] == "start" else "cut"
     watch, tick = row[name], row[f"{name}_at"]
     if not watch:
@@ -211,10 +250,11 @@ def after_fault(shown, most, units):
 
 
 def stretch(shown, most, units):
-    ticks = int(shown.row["stretch"])
-    if shown.row["settled"] == "0":
-        return False, f"it ends too soon to show that; its longest excess has {lasts(units, ticks)}"
-    return ticks <= most, f"its longest excess has {lasts(units, ticks)}"
+    row, ticks = shown.row, int(shown.row["stretch"])
+    told = f"its longest excess has {lasts(units, ticks)}"
+    hidden = f"its fault comes at {row['onset']}, after the cut" if shown.is_late() else shown.hidden
+    why = f"it isn't shown: {hidden}" if hidden else not_driven(shown, stops=not row["confirmed"]) or shown.too_soon()
+    return not why and ticks <= most, f"{why}; {told}" if why else told
 
 
 JUDGES = {"sound": sound, "room": room, "cut": cut, "latest.after_excess": after_excess, "latest.after_fault": after_fault,

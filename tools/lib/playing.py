@@ -45,7 +45,7 @@ class Played:
         self.campaign, self.calibration, self.units = campaign, calibration, units_of(tick, [calibration])
         self.version, self.commands, self.sums = version_lines(), [], {}
         self.date = datetime.datetime.now(datetime.timezone.utc).strftime("%Y-%m-%d %H:%M UTC")
-        units = beside(calibration) if calibration and tick is None else None
+        units = beside(calibration) if calibration else None
         for name in [program(), *(name for name in (calibration, units, campaign) if name)]:
             self.add_sum(name)
         for name in own_files(calibration):

@@ -115,11 +115,29 @@ def units_beside(calibration):
     return Units(tick_of(f"{path}: tick", held["tick"]))
 
 
-def units_of(said, calibrations):
-    """The units of a call: a tick as --tick says, or else as units.toml beside the calibrations does."""
-    if said is not None:
-        return Units(tick_of("--tick", said))
-    ticks = {calibration: units_beside(calibration).tick for calibration in calibrations if calibration}
-    if len(set(ticks.values())) > 1:
-        fail("units.toml beside the calibrations says several lengths of a tick, or is missing beside one: --tick says one")
-    return Units(next(iter(ticks.values()), None))
+def units_of(said, calibrations, own=None):
+    """The units of a call: a tick as --tick says, or `own` (the place and the text of another file's), or units.toml beside
+    the calibrations. Where several of these say how long it is, they have to say the same."""
+    told = [("--tick", tick_of("--tick", said))] if said is not None else []
+    told += [(own[0], tick_of(*own))] if own else []
+    is_said, paths = bool(told), [beside(calibration) for calibration in calibrations if calibration]
+    told += [(beside(calibration), units_beside(calibration).tick) for calibration in calibrations if calibration and beside(calibration)]
+    if not told:
+        return Units()
+    place, tick = told[0]
+    for other, length in told:
+        if length != tick:
+            fail(f"a tick has one length, and {place} says {time_told(tick)}, {other} {time_told(length)}")
+    if None in paths and not is_said:
+        fail(f"{place} says how long a tick is, and none stands beside another calibration: --tick says it for all")
+    return Units(tick)
+
+
+def ticks_of(word, said, units):
+    """The ticks of a time behind a word of the call, as a fraction: 300ms, or a number of ticks."""
+    if re.fullmatch("[0-9]{1,9}", said):
+        return Fraction(int(said))
+    time = time_of(said)
+    if time is None:
+        fail(f"{word} {said} is no time, such as 300ms or 0.3s, and no number of ticks")
+    return Fraction(time, units.tick) if units else fail(f"{word} {said}: how long a tick is has to be said (--tick 10ms)")

@@ -72,7 +72,7 @@ def time_point(under, ticks, asked, units=Units()):
         return FAILS, f"{under} no bound is known for how long an excess lasts."
     lasts = f"{under} an excess lasts {units.ticks(ticks, 'ticks')} in a row at the most"
     if asked.tolerant is None:
-        return OPEN, f"{lasts}; how many are tolerated wasn't said (--tolerant TICKS)."
+        return OPEN, f"{lasts}; how many are tolerated wasn't said (--tolerant TIME)."
     left = max(0, asked.tolerant - 1 - (asked.falls or 0))
     less = f"{units.ticks(asked.tolerant)} less 1, since it may begin between two ticks"
     if asked.falls is not None:
@@ -80,7 +80,7 @@ def time_point(under, ticks, asked, units=Units()):
     if ticks > left:
         return FAILS, f"{lasts}, and only {units.ticks(left)} are tolerated: {less}."
     if asked.falls is None:
-        return OPEN, f"{lasts}, and at most {units.ticks(left)} are tolerated: {less}. How long the torque takes to fall wasn't said (--falls TICKS)."
+        return OPEN, f"{lasts}, and at most {units.ticks(left)} are tolerated: {less}. How long the torque takes to fall wasn't said (--falls TIME)."
     return FITS, f"{lasts}, and {units.ticks(left)} are tolerated: {less}."
 
 
@@ -92,9 +92,8 @@ def cut_point(played):
     cut = [f"{row['run']} {found}" for row in rows if (found := cut_by(row, played.units))]
     if cut:
         return FAILS, f"Sound drives are cut, {len(cut)} of {len(rows)}: {named(cut)}."
-    idle = [f"{row['run']}, {why}" for row in rows if (why := idle_by(row))]
-    if idle:
-        return OPEN, f"Sound drives that aren't driven, or whose level 1 stops, show nothing: {named(idle)}."
+    if idle := idle_said(played):
+        return OPEN, idle
     return FITS, f"None of the sound drives is cut ({named(row['run'] for row in rows)})."
 
 
@@ -114,6 +113,12 @@ def idle_by(row):
     return None if row["last_on"] else "whose stages are on at no tick"
 
 
+def idle_said(played):
+    """Which of the drives that were declared sound show nothing, in a sentence; None if each shows something."""
+    idle = [f"{row['run']}, {why}" for row in played.rows if row["run"] in played.sound and (why := idle_by(row))]
+    return f"Sound drives that aren't driven, or whose level 1 stops, show nothing: {named(idle)}." if idle else None
+
+
 def room_point(played, asked):
     """How much room a weight leaves to its limit in the drives that were declared sound."""
     rooms = [(100 * (limit - int(row[watch])) / limit, watch, row)
@@ -125,7 +130,10 @@ def room_point(played, asked):
              f"{played.weights[watch]}, which leaves {int(room)} %")
     if asked.room is None:
         return OPEN, f"How much room is wanted wasn't said (--room PERCENT); {least}."
-    return (FAILS if room < asked.room else FITS), f"Room of {asked.room} % is wanted; {least}."
+    wanted, idle = f"Room of {asked.room} % is wanted", idle_said(played)
+    if idle and room >= asked.room:
+        return OPEN, f"{wanted}. {idle}"
+    return (FAILS if room < asked.room else FITS), f"{wanted}; {least}."
 
 
 def misses_point(played):

@@ -34,7 +34,8 @@ class Expecting(InFolder):
         self.assertEqual([check.value for check in self.expected(text).limits], [
             ("stretch", "most", 38), ("test", "least", 39), ("test", "most", 40)])
         self.assertEqual([check.key for check in self.expected(text).limits], ["stretch", "test.least", "test.most"])
-        self.assertEqual(self.expected(text, "5ms").limits[0].value, ("stretch", "most", 77))
+        self.assertEqual(self.expected(text, "10ms").limits[0].value, ("stretch", "most", 38))
+        self.assertEqual(self.note(text, "5ms"), "a tick has one length, and --tick says 5 ms, e.toml: tick 10 ms")
         self.assertEqual(self.expected(f'tick = "0.5 ms"\n{RUN}stretch = "0.3 s"').runs[0].checks, (
             Check("stretch", '"0.3 s"', 600),))
 
@@ -42,7 +43,9 @@ class Expecting(InFolder):
         self.put("cal/units.toml", 'tick = "20ms"\n')
         text = 'calibration = "cal/own.toml"\n[limits]\nreaction = "1 s"\n'
         self.assertEqual(self.expected(text).limits[0].value, ("reaction", "most", 50))
-        self.assertEqual(self.expected(f'tick = "10ms"\n{text}').limits[0].value, ("reaction", "most", 100))
+        self.assertEqual(self.expected(f'tick = "0.02 s"\n{text}').limits[0].value, ("reaction", "most", 50))
+        for said, tick, words in (('tick = "10ms"\n', None, "e.toml: tick says 10 ms"), ("", "10ms", "--tick says 10 ms")):
+            self.assertEqual(self.note(said + text, tick), f"a tick has one length, and {words}, cal/units.toml 20 ms")
 
     def test_what_is_no_expectation_is_refused_by_its_place(self):
         for text, words in (

@@ -4,7 +4,7 @@ from unittest import mock
 
 from lib import judging
 from lib.expecting import Check, Expected
-from lib.judging import Shown, recording_shown, verdict, verdicts
+from lib.judging import Shown, inputs_of, recording_shown, verdict, verdicts
 from lib.units import Units
 from in_folder import InFolder
 from notes import note_of
@@ -28,8 +28,8 @@ surplus -474
 """
 
 
-def shown_by(row, resets=(), ticks=100, **weights):
-    return Shown(row, {watch: (weights.get(watch, 0), limit) for watch, limit in LIMITS.items()}, ticks, resets)
+def shown_by(row, resets=(), ticks=100, excess=list, **weights):
+    return Shown(row, {watch: (weights.get(watch, 0), limit) for watch, limit in LIMITS.items()}, ticks, resets, excess)
 
 
 class Judging(InFolder):
@@ -100,7 +100,8 @@ class Judging(InFolder):
 
     def test_not_cut(self):
         self.holds("cut", [], SOUND, "it isn't cut")
-        self.holds("cut", [], SOUND | {"first": "pedal", "first_at": "9", "trap": "store", "trap_at": "0"})
+        self.holds("cut", [], SOUND | {"first": "pedal", "first_at": "9", "trap": "store", "trap_at": "0"},
+                   "it isn't cut, and level 1 traps at 0")
         self.fails("cut", [], CUT, "it is cut by torque at 31")
         self.fails("cut", [], SOUND | {"off_at": "40"}, "it is off at 40")
         self.fails("cut", [], SOUND | {"last_on": ""}, "it is a run whose stages are on at no tick, and shows nothing")
@@ -138,7 +139,35 @@ class Judging(InFolder):
         self.holds("stretch", 33, CUT, "its longest excess has 33 ticks (330 ms)")
         self.fails("stretch", 32, CUT, "its longest excess has 33 ticks (330 ms)")
         self.holds("stretch", 1, SOUND | {"stretch": "1"}, "its longest excess has 1 tick (10 ms)")
+        self.fails("stretch", 99, CUT | {"onset": "60"},
+                   "it isn't shown: its fault comes at 60, after the cut; its longest excess has 33 ticks (330 ms)")
+        trapped = {"trap": "fetch", "trap_at": "4"}
+        self.holds("stretch", 33, CUT | trapped)
+        self.fails("stretch", 99, SOUND | trapped,
+                   "it is a run whose level 1 traps at 4, and shows nothing; its longest excess has 2 ticks (20 ms)")
+        self.fails("stretch", 99, SOUND | {"last_on": "", "stretch": "0"},
+                   "it is a run whose stages are on at no tick, and shows nothing; its longest excess has 0 ticks (0 ms)")
         self.fails("stretch", 99, CUT | {"settled": "0"}, "it ends too soon to show that; its longest excess has 33 ticks (330 ms)")
+
+    def test_an_excess_at_the_end_leaves_it_open_what_comes_of_it(self):
+        last, before = ([False] * tick + [True] + [False] * (99 - tick) for tick in (99, 49))
+        for key, value in (("sound", True), ("room", 0), ("cut", []), ("stretch", 99)):
+            for ticks, resets, words in ((last, (), "at 99, its last tick, there is"), (before, (50,), "at 49, right before a reset, there is"),
+                                         (before, (), None), (before, (49,), None), (last[:99], (), None)):
+                told = self.judged(key, value, SOUND, excess=lambda ticks=ticks: ticks, resets=resets)
+                self.assertEqual((told.is_so, words or "") == (words is None, words or "") and (words or "") in told.words, True, told)
+        # Off at the end, or without any excess, nothing has to be asked.
+        self.holds("stretch", 33, CUT, excess=None)
+        self.holds("sound", True, SOUND | {"stretch": "0"}, excess=None)
+
+    def test_a_recording_that_trips_or_ends_within_an_excess_does_not_show_its_stretch(self):
+        told = verdict("m.csv", Check("stretch", "?", 99), recording_shown(REPLAY, None), Units())
+        self.assertEqual((told.is_so, told.words), (False, "it isn't shown: torque trips at 30, and from there on a replay tells no "
+                                                    "excess; its longest excess has 5 ticks"))
+        open_end = recording_shown(REPLAY.replace("torque at 30", "torque none").replace("trip at 30", "trip never")
+                                   .replace("plate at 40", "plate none"), lambda: [False] * 1999 + [True])
+        self.assertEqual([verdict("m.csv", Check(key, "?", value), open_end, Units()).is_so for key, value in (
+            ("stretch", 99), ("sound", True), ("cut", []), ("room", 0))], [False] * 4)
 
     def test_what_a_recording_shows(self):
         shown = recording_shown(REPLAY)
@@ -159,13 +188,16 @@ class Judging(InFolder):
 
 
 PRINTED = {"limits": "reaction 34\nlapse none\nverdicts 3\nexcess 5\ntest 30\nspacing 80\nstretch 38\npeak 2300\n",
-           "replay": REPLAY}
+           "replay": REPLAY.replace("torque at 30", "torque none").replace("trip at 30", "trip never").replace("plate at 40", "plate none"),
+           "signals": "excess\n" + "1\n" * 5 + "0\n" * 1995,
+           "record": "tick,torque,limit,path1,path2,on,found\n" + "".join(f"{tick},300,0,1,1,1,-\n" for tick in range(99)) + "99,200,0,1,1,1,-\n"}
 
 
 class Files(InFolder):
     def setUp(self):
         super().setUp()
         self.calls = []
+        self.put("cal.toml", "permit.threshold = 200\n")
         self.put("d.csv", "pedal,speed,raise,reset\n" + "0,0,0,0\n" * 100)
         self.put("c.toml", "".join(f'[[run]]\nname = "{name}"\ntrace = "d.csv"\nimage = "i.hex"\n' for name in ("b", "a", "a-2")))
         self.rows = [CUT, SOUND, SOUND | {"run": "a-2"}]
@@ -178,7 +210,7 @@ class Files(InFolder):
         return PRINTED.get(command) or "".join(",".join(line) + "\n" for line in [rows[0], *(row.values() for row in rows)])
 
     def judged(self, text, is_strict=False):
-        self.put("e.toml", text)
+        self.put("e.toml", f'calibration = "cal.toml"\n{text}' if "calibration" not in text else text)
         told = list(verdicts(Expected("e.toml", None), is_strict))
         return [(one.subject, one.name, one.is_so) for one in told]
 
@@ -186,7 +218,7 @@ class Files(InFolder):
         told = self.judged("[limits]\nreaction = 34\nlapse = 99\nspacing = { least = 80, most = 79 }\npeak = 2299")
         self.assertEqual(told, [("limits", "reaction = 34", True), ("limits", "lapse = 99", False), ("limits", "spacing.least = 80", True),
                                 ("limits", "spacing.most = 79", False), ("limits", "peak = 2299", False)])
-        self.assertEqual(self.calls, [("limits",)])
+        self.assertEqual(self.calls, [("limits", "--cal", "cal.toml")])
 
     def test_runs_are_named_by_patterns_in_the_order_of_the_campaign(self):
         told = self.judged('campaign = "c.toml"\n[[expect]]\nrun = ["a*", "?"]\nstretch = 33')
@@ -202,11 +234,26 @@ class Files(InFolder):
         self.assertEqual(self.judged(text, True)[1:], [("a", "is named", False), ("a-2", "is named", False)])
 
     def test_calls_are_few_and_by_the_calibration(self):
-        self.put("own.toml", "".join(f"{key}.limit = 10\n" for key in ("pairs", "torque", "answers")))
+        self.put("own.toml", "permit.threshold = 200\n" + "".join(f"{key}.limit = 10\n" for key in ("pairs", "torque", "answers")))
         text = 'calibration = "own.toml"\ncampaign = "c.toml"\n[[expect]]\nrun = "a"\nroom = 90\n[[recording]]\nfile = ["m.csv", "n.csv"]\nstretch = 5'
         self.assertEqual([told[2] for told in self.judged(text)], [True, None, None, True, True])
         cal = ("--cal", "own.toml")
-        self.assertEqual(self.calls, [("table", *cal, "c.toml"), ("margins", *cal, "c.toml"), ("replay", *cal, "m.csv"), ("replay", *cal, "n.csv")])
+        self.assertEqual(self.calls, [("table", *cal, "c.toml"), ("margins", *cal, "c.toml"), ("record", *cal, "c.toml", "a"), ("replay", *cal, "m.csv"),
+                                      ("signals", *cal, "m.csv"), ("replay", *cal, "n.csv"), ("signals", *cal, "n.csv")])
+
+    def test_a_run_that_ends_within_an_excess_shows_nothing(self):
+        text = 'calibration = "own.toml"\ncampaign = "c.toml"\n[[expect]]\nrun = "a"\nstretch = 9\ncut = false\nsound = true'
+        self.put("own.toml", "permit.threshold = 199\n")
+        self.assertEqual([told[2] for told in self.judged(text)][:3], [False, False, False])
+        self.assertEqual([call[0] for call in self.calls], ["table", "record"])
+        self.put("own.toml", "permit.threshold = 200\n")
+        self.assertEqual([told[2] for told in self.judged(text)][:3], [True, True, True])
+
+    def test_inputs_are_the_files_that_are_read(self):
+        self.put("own.toml", "")
+        self.put("units.toml", 'tick = "10 ms"')
+        self.put("e.toml", 'calibration = "own.toml"\ncampaign = "c.toml"\n[[expect]]\nrun = "a"\nsound = true\n[[recording]]\nfile = ["m.csv", "n.csv"]\nstretch = 5')
+        self.assertEqual(set(inputs_of(Expected("e.toml", None))), {"e.toml", "own.toml", "c.toml", "d.csv", "i.hex", "units.toml", "m.csv", "n.csv"})
 
     def test_campaign_that_changes_meanwhile_is_told(self):
         self.rows = self.rows[:2]

@@ -9,7 +9,7 @@ from fractions import Fraction
 
 from in_folder import InFolder
 from lib.files import TOP
-from lib.units import Units, decimal, tick_of, time_of, time_told, units_of
+from lib.units import Units, decimal, tick_of, ticks_of, time_of, time_told, units_of
 from notes import note_of
 
 MS = 10**6  # nanoseconds
@@ -84,12 +84,31 @@ class Beside(InFolder):
         self.put("a/units.toml", 'tick = "10ms"\n')
         self.put("b/units.toml", 'tick = "5ms"\n')
         self.assertEqual(units_of(None, ["a/c.toml", "a/d.toml"]).tick, 10 * MS)
-        self.assertEqual(units_of("20ms", ["a/c.toml", "b/c.toml"]).tick, 20 * MS)
+        self.assertEqual(units_of("5ms", ["b/c.toml", "c.toml"], ("e.toml: tick", "5 ms")).tick, 5 * MS)
         for calibrations in ([], [None], ["c.toml"]):
             self.assertFalse(units_of(None, calibrations))
         self.assertEqual(units_of(None, ["a/c.toml", None]).tick, 10 * MS)
-        for calibrations in (["a/c.toml", "b/c.toml"], ["a/c.toml", "c.toml"]):
-            self.assertRegex(note_of(units_of, None, calibrations), "^units.toml beside the calibrations says several ")
+        self.assertEqual(note_of(units_of, None, ["a/c.toml", "c.toml"]), "a/units.toml says how long a tick is, and none stands "
+                         "beside another calibration: --tick says it for all")
+
+    def test_a_tick_has_one_length_wherever_it_is_said(self):
+        self.put("a/units.toml", 'tick = "10ms"\n')
+        self.put("b/units.toml", 'tick = "5ms"\n')
+        own = ("e.toml: tick", "0.02 s")
+        for said, calibrations, file, words in (
+                ("20ms", ["a/c.toml"], None, "--tick says 20 ms, a/units.toml 10 ms"), ("20ms", ["c.toml"], own, None),
+                ("10ms", ["c.toml"], own, "--tick says 10 ms, e.toml: tick 20 ms"), (None, ["b/c.toml"], own, "e.toml: tick says 20 ms, b/units.toml 5 ms"),
+                (None, ["a/c.toml", "b/c.toml"], None, "a/units.toml says 10 ms, b/units.toml 5 ms")):
+            self.assertEqual(note_of(units_of, said, calibrations, file), words and f"a tick has one length, and {words}")
+
+    def test_a_time_of_the_call_is_told_in_ticks(self):
+        self.assertEqual([ticks_of("--falls", said, Units(10 * MS)) for said in ("30", "300ms", "0.3s", "255ms")],
+                         [30, 30, 30, Fraction(51, 2)])
+        self.assertEqual(ticks_of("--falls", "30", Units()), 30)
+        self.assertEqual(note_of(ticks_of, "--falls", "300ms", Units()), "--falls 300ms: how long a tick is has to be said (--tick 10ms)")
+        for said in ("1.5", "x", "-1", "", "1 min", "1234567890"):
+            self.assertEqual(note_of(ticks_of, "--falls", said, Units(MS)),
+                             f"--falls {said} is no time, such as 300ms or 0.3s, and no number of ticks")
 
     def test_units_have_one_key(self):
         for text in ("", 'tick = "10ms"\nms = 1\n', 'tack = "10ms"\n'):

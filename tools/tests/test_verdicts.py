@@ -73,6 +73,14 @@ class Verdicts(unittest.TestCase):
         cut = row_of("cut", "none", trap="fetch", trap_at="1", cut="torque", cut_at="2")
         self.assertEqual(cut_point(played_of(rows=[cut], sound=["cut"]))[0], FAILS)
 
+    def test_room_of_a_sound_drive_that_shows_nothing_is_not_judged(self):
+        rows = [row_of("never", "none", last_on=""), row_of("trapped", "none", trap="fetch", trap_at="1"), row_of("good", "none")]
+        margins = [margin_of("never"), margin_of("trapped"), margin_of("good", torque="4")]
+        for sound, room, state in ((["never"], 20, OPEN), (["trapped", "good"], 20, OPEN), (["trapped", "good"], 21, FAILS), (["good"], 20, FITS)):
+            told = room_point(played_of(rows=rows, margins=margins, sound=sound), asked_of(room=room))
+            self.assertEqual(told[0], state)
+            self.assertEqual("show nothing" in told[1], state == OPEN)
+
     def test_room_is_that_of_the_nearest_limit(self):
         self.assertEqual([room_point(played_of(), asked_of(room=room))[0] for room in (0, 20, 21, None)], [FITS, FITS, FAILS, OPEN])
         self.assertEqual(room_point(played_of(sound=[]), asked_of())[0], OPEN)
