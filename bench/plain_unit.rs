@@ -66,6 +66,8 @@ struct Times {
 struct Calibration {
     permit: Permit,
     threshold: u16,
+    /// By how much the permitted torque may fall in a tick; `u16::MAX` stands for no ramp.
+    fall: u16,
     kt: u16,
     torque: Weights,
     /// Of pedal, plate, load and speed.
@@ -107,6 +109,7 @@ fn reference() -> Calibration {
             rows: vec![vec![200, 100, 0], vec![1000, 1200, 900], vec![2000, 2400, 1800]],
         },
         threshold: 200,
+        fall: u16::MAX,
         kt: 2500,
         torque: Weights { up: 1, down: 1, limit: 5 },
         tolerances: [50; 4],
@@ -175,16 +178,23 @@ impl Permit {
         })
     }
 
-    /// The torque that a pedal and the lower of two speeds' values permit, or the raise.
-    fn permitted(&self, pedal: u16, speeds: [u16; 2], raise: u16) -> u16 {
+    /// The torque that a pedal and the lower of two speeds' values demand, or the raise.
+    fn demand(&self, pedal: u16, speeds: [u16; 2], raise: u16) -> u16 {
         let row = place(&self.pedal, pedal);
         let torque = self.at(row, pedal, speeds[0]).min(self.at(row, pedal, speeds[1]));
         torque.max(raise)
     }
 
-    /// The torque that a drive row permits.
-    fn limit(&self, drive: &Drive) -> u16 {
+    /// The torque that a drive row demands.
+    fn row_demand(&self, drive: &Drive) -> u16 {
         self.at(place(&self.pedal, drive.pedal), drive.pedal, drive.speed).max(drive.raise)
+    }
+}
+
+impl Calibration {
+    /// The permitted torque of a tick with this demand, behind one with another.
+    fn ramped(&self, before: u16, demand: u16) -> u16 {
+        demand.max(before.saturating_sub(self.fall))
     }
 }
 
@@ -357,10 +367,10 @@ fn pedal(words: &mut Words, cal: &Calibration) {
 
 fn permitted(words: &mut Words, cal: &Calibration) {
     let raise = checked_raise(words[PORTS + 8], words[PORTS + 9]);
-    let signal = cal.permit.permitted(words[PEDAL], pair(words, 6), raise);
+    let signal = cal.ramped(words[PERMITTED], cal.permit.demand(words[PEDAL], pair(words, 6), raise));
     let row = asked(cal, words);
     let raise = checked_raise(row.readings.raise, row.readings.check);
-    let test = cal.permit.permitted(row.used, row.readings.speed, raise);
+    let test = cal.permit.demand(row.used, row.readings.speed, raise);
     write(words, 2, signal, test);
 }
 
@@ -537,6 +547,8 @@ struct Unit<'a> {
     engine: Engine,
     monitor: Monitor,
     ticks: u32,
+    /// The permitted torque of the tick before, 0 at first.
+    limit: u16,
     open1: bool,
     open2: bool,
     trap: Option<(Trap, u32)>,
@@ -556,6 +568,7 @@ impl Unit<'_> {
             engine: Engine { plate: 0, charge: cal.charge.at(0), torque: 0 },
             monitor: Monitor { heard: 0, right: false, counter: 0 },
             ticks: 0,
+            limit: 0,
             open1: false,
             open2: false,
             trap: None,
@@ -566,7 +579,7 @@ impl Unit<'_> {
     fn tick(&mut self, drive: &Drive, budget: &[u16; 9]) -> Row {
         let (path1, path2) = (!self.open1, !self.open2);
         let on = path1 && path2;
-        let limit = self.cal.permit.limit(drive);
+        self.limit = self.cal.ramped(self.limit, self.cal.permit.row_demand(drive));
         self.engine.step(self.cal, self.words[THROTTLE], self.words[IGNITION], on);
         let (period, phase) = (self.ticks / self.cal.times.period, self.ticks % self.cal.times.period);
         let asked = (period % self.cal.questions.len() as u32) as u16;
@@ -580,7 +593,7 @@ impl Unit<'_> {
         if let (None, State::Trapped(kind)) = (self.trap, self.machine.state) {
             self.trap = Some((kind, self.ticks));
         }
-        let row = self.row(drive, limit, [path1, path2, on], found, &judged);
+        let row = self.row(drive, [path1, path2, on], found, &judged);
         self.ticks += 1;
         row
     }
@@ -609,7 +622,7 @@ impl Unit<'_> {
     }
 
     /// The row; the paths are path 1, path 2 and both.
-    fn row(&self, drive: &Drive, limit: u16, paths: [bool; 3], found: Watches, judged: &Judgement) -> Row {
+    fn row(&self, drive: &Drive, paths: [bool; 3], found: Watches, judged: &Judgement) -> Row {
         let words = &self.words;
         Row {
             tick: self.ticks,
@@ -617,7 +630,7 @@ impl Unit<'_> {
             plate: self.engine.plate,
             charge: self.engine.charge,
             torque: self.engine.torque,
-            limit,
+            limit: self.limit,
             path1: paths[0],
             path2: paths[1],
             on: paths[2],

@@ -15,6 +15,9 @@ pub struct Permit {
 
 const MOST_POINTS: usize = 16;
 
+/// The fall that stands for no ramp: what is permitted then falls at once.
+pub const NO_RAMP: u16 = u16::MAX;
+
 #[derive(Clone, Copy)]
 pub struct Weights {
     pub up: u16,
@@ -64,6 +67,8 @@ pub struct Calibration {
     pub threshold: u16,
     /// Whether the brake counts.
     pub brake: bool,
+    /// By how much the permitted torque may fall in a tick, or `NO_RAMP`.
+    pub fall: u16,
     pub kt: u16,
     pub torque: Weights,
     /// Of pedal, plate, load and speed.
@@ -119,6 +124,7 @@ pub fn reference() -> Calibration {
         ),
         threshold: 200,
         brake: false,
+        fall: NO_RAMP,
         kt: 2500,
         torque: Weights { up: 1, down: 1, limit: 5 },
         tolerances: [50; 4],
@@ -146,13 +152,34 @@ impl Calibration {
         let raise = checked_raise(read.raise, read.check);
         let results = [
             lower_pedal(read.pedal),
-            self.permit.permitted(row.used, read.speed, raise),
+            self.permit.demand(row.used, read.speed, raise),
             estimate(read.load[0].max(read.load[1]), self.kt),
             u16::from(exceeds(row.estimate, row.allowed, self.threshold)),
             pair_bits(read, &self.tolerances),
         ];
         let answer = results.iter().fold(row.seed, |sign, result| folded(sign, *result));
         Question { seed: row.seed, results, answer }
+    }
+
+    /// The permitted torque of a tick with this demand: it may lie below that of the tick before by the fall.
+    #[inline(always)]
+    pub fn ramped(&self, before: u16, demand: u16) -> u16 {
+        demand.max(before.saturating_sub(self.fall))
+    }
+
+    /// How many ticks the ramp takes from the greatest torque of the permit table to its least: none where nothing
+    /// ever falls.
+    pub fn ramp_ticks(&self) -> Option<u16> {
+        match self.fall {
+            NO_RAMP => Some(0),
+            0 => None,
+            fall => Some((self.permit.greatest() - self.permit.least()).div_ceil(fall)),
+        }
+    }
+
+    /// The bound for lapses: none with a ramp, on which level 2's permitted torque stands still at missed ticks.
+    pub fn lapse_bound(&self) -> Option<u32> {
+        if self.fall == NO_RAMP { self.times.lapse_bound(&self.torque) } else { None }
     }
 
     /// The longest stretch of excess under a listed fault, in ticks.
@@ -185,9 +212,9 @@ impl Times {
         (self.wrong_verdicts() + 1) * self.period - self.send - 1
     }
 
-    /// The bound for lapses, where the torque is debounced by these weights: none where the right verdicts of a
-    /// round may take as much as its wrong one adds.
-    pub fn lapse_bound(&self, torque: &Weights) -> Option<u32> {
+    /// The bound for lapses without a ramp, where the torque is debounced by these weights: none where the right
+    /// verdicts of a round may take as much as its wrong one adds.
+    fn lapse_bound(&self, torque: &Weights) -> Option<u32> {
         let periods = torque.to_confirm().div_ceil(self.period);
         let taken = (periods - 1) * u32::from(self.weights.down);
         let worth = u32::from(self.weights.up).checked_sub(taken).filter(|worth| *worth > 0)?;
@@ -274,8 +301,13 @@ impl Permit {
         self.rows[0][..self.speed.len()].iter().copied().min().unwrap_or(0)
     }
 
-    /// The torque that a pedal and the lower of two speeds' values permit, or the raise.
-    pub fn permitted(&self, pedal: u16, speeds: [u16; 2], raise: u16) -> u16 {
+    /// The greatest torque of the table: the greatest of its last row, below which no other row's lies.
+    fn greatest(&self) -> u16 {
+        self.rows[self.pedal.len() - 1].iter().copied().max().unwrap_or(0)
+    }
+
+    /// The torque that a pedal and the lower of two speeds' values demand, or the raise.
+    pub fn demand(&self, pedal: u16, speeds: [u16; 2], raise: u16) -> u16 {
         let pedal = Spot::of(&self.pedal, pedal);
         let [first, second] = speeds.map(|speed| self.at(pedal, speed));
         first.min(second).max(raise)

@@ -2,7 +2,7 @@
 
 use std::str;
 
-use crate::calibration::{Calibration, Permit, Table, TestRow, Times, Weights, row};
+use crate::calibration::{Calibration, NO_RAMP, Permit, Table, TestRow, Times, Weights, row};
 use crate::keys::{Key, Keys, numbers, tables};
 use crate::toml::{self, Value};
 
@@ -38,6 +38,7 @@ struct PermitPart {
     torques: Vec<Vec<u16>>,
     threshold: u16,
     brake: bool,
+    fall: u16,
 }
 
 /// The calibration of a file.
@@ -58,7 +59,7 @@ pub fn answers(bytes: &[u8]) -> Result<Vec<u16>, Refusal> {
 fn unanswered(bytes: &[u8]) -> Result<(Calibration, Vec<u16>), Refusal> {
     let table = str::from_utf8(bytes).ok().and_then(toml::document).ok_or("not TOML")?;
     let mut keys = Keys { table };
-    let version = keys.number("version", 1..=2).map_err(|name| format!("key {name}"))?;
+    let version = keys.number("version", 1..=3).map_err(|name| format!("key {name}"))?;
     let (mut permit, mut torque) = (keys.keys("permit"), keys.keys("torque"));
     let (mut pairs, mut plant, mut answers) = (keys.keys("pairs"), keys.keys("plant"), keys.keys("answers"));
     let parted = permit.permit(version).map_err(|fault| fault.of("permit"))?;
@@ -80,6 +81,7 @@ fn unanswered(bytes: &[u8]) -> Result<(Calibration, Vec<u16>), Refusal> {
         permit: Permit::new(parted.pedal, parted.speed, &parted.torques),
         threshold: parted.threshold,
         brake: parted.brake,
+        fall: parted.fall,
         kt,
         torque: torque_weights,
         tolerances,
@@ -110,15 +112,16 @@ fn questions(value: Value) -> Option<Vec<(TestRow, u16)>> {
 }
 
 impl Keys {
-    /// In version 1 there is no brake.
+    /// In version 1 there is no brake, and before version 3 no ramp.
     fn permit(&mut self, version: i64) -> Result<PermitPart, Fault> {
         let (pedal, speed) = (self.axis("pedal", 1000)?, self.axis("speed", 8000)?);
         let columns = speed.len();
         let row = |value: &Value| numbers(value, columns..=columns, 10_000);
         let torques = self.list("table", pedal.len()..=pedal.len(), row)?;
         let threshold = self.word("threshold", 0..=10_000)?;
-        let brake = version == 2 && self.truth("brake")?;
-        Ok(PermitPart { pedal, speed, torques, threshold, brake })
+        let brake = version >= 2 && self.truth("brake")?;
+        let fall = if version >= 3 { self.word("fall", 0..=10_000)? } else { NO_RAMP };
+        Ok(PermitPart { pedal, speed, torques, threshold, brake, fall })
     }
 
     fn torque(&mut self) -> Result<(u16, Weights), Key> {

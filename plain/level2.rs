@@ -150,12 +150,12 @@ impl Rules<'_> {
         let (pedal, speeds) = (words[USED], pair(words, 6));
         let raise = checked_raise(words[PORTS + 8], words[PORTS + 9]);
         let is_known = pedal == self.known.pedal && speeds == [self.known.speed; 2];
-        let signal = if is_known {
+        let demand = if is_known {
             self.known.torque.max(raise)
         } else {
-            self.cal.permit.permitted(pedal, speeds, raise)
+            self.cal.permit.demand(pedal, speeds, raise)
         };
-        self.write(words, 2, signal, disturbance);
+        self.write(words, 2, self.cal.ramped(words[PERMITTED], demand), disturbance);
     }
 
     #[inline(always)]

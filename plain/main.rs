@@ -117,6 +117,8 @@ type Output = BufWriter<File>;
 #[derive(Default)]
 struct Excess {
     rows: u32,
+    /// The permitted torque of the row before.
+    limit: u16,
     counter: u16,
     confirmed: Option<u32>,
 }
@@ -124,8 +126,8 @@ struct Excess {
 /// The first tick by which the excess of a file's rows is confirmed.
 fn check(cal: &Calibration, file: &str, out: &mut Output) -> Result<(), End> {
     let add = |excess: &mut Excess, drive: &Drive, torque| {
-        let limit = cal.permit.table(drive.pedal, drive.speed).max(drive.raise);
-        excess.counter = cal.torque.feed(excess.counter, exceeds(torque, limit, cal.threshold));
+        excess.limit = cal.ramped(excess.limit, cal.permit.table(drive.pedal, drive.speed).max(drive.raise));
+        excess.counter = cal.torque.feed(excess.counter, exceeds(torque, excess.limit, cal.threshold));
         if excess.confirmed.is_none() && excess.counter >= cal.torque.limit {
             excess.confirmed = Some(excess.rows);
         }
@@ -141,7 +143,7 @@ fn check(cal: &Calibration, file: &str, out: &mut Output) -> Result<(), End> {
 /// The worst-case reaction, and the bound for lapses.
 fn bound(cal: &Calibration, out: &mut Output) -> Result<(), End> {
     put(format!("reaction {}\n", cal.times.reaction()).as_bytes(), out)?;
-    put(format!("lapse {}\n", or_none(cal.times.lapse_bound(&cal.torque))).as_bytes(), out)?;
+    put(format!("lapse {}\n", or_none(cal.lapse_bound())).as_bytes(), out)?;
     Ok(())
 }
 
@@ -155,10 +157,11 @@ fn limits(cal: &Calibration, out: &mut Output) -> Result<(), End> {
     put(format!("spacing {}\n", or_none(times.miss_spacing())).as_bytes(), out)?;
     put(format!("stretch {}\n", cal.stretch()).as_bytes(), out)?;
     put(format!("peak {}\n", cal.peak()).as_bytes(), out)?;
+    put(format!("ramp {}\n", or_none(cal.ramp_ticks())).as_bytes(), out)?;
     Ok(())
 }
 
-fn or_none(number: Option<u32>) -> String {
+fn or_none<T: ToString>(number: Option<T>) -> String {
     number.map_or("none".to_string(), |number| number.to_string())
 }
 

@@ -28,6 +28,8 @@ pub struct Tick {
 pub struct Level2<'a> {
     cal: &'a Calibration,
     ticks: u64,
+    /// The permitted torque of the tick before, 0 at first.
+    permitted: u16,
     weights: [u16; DEBOUNCERS],
     is_limited: bool,
     has_tripped: bool,
@@ -35,7 +37,7 @@ pub struct Level2<'a> {
 
 impl Level2<'_> {
     pub fn new(cal: &Calibration) -> Level2<'_> {
-        Level2 { cal, ticks: 0, weights: [0; DEBOUNCERS], is_limited: false, has_tripped: false }
+        Level2 { cal, ticks: 0, permitted: 0, weights: [0; DEBOUNCERS], is_limited: false, has_tripped: false }
     }
 
     /// A tick with these readings of the sensors and of the brake's contacts.
@@ -62,10 +64,12 @@ impl Level2<'_> {
     }
 
     #[inline(always)]
-    fn signals(&self, read: &Readings) -> [u16; 5] {
+    fn signals(&mut self, read: &Readings) -> [u16; 5] {
         let cal = self.cal;
         let used = if self.is_limited { 0 } else { lower_pedal(read.pedal) };
-        let permitted = cal.permit.permitted(used, read.speed, checked_raise(read.raise, read.check));
+        let demand = cal.permit.demand(used, read.speed, checked_raise(read.raise, read.check));
+        let permitted = cal.ramped(self.permitted, demand);
+        self.permitted = permitted;
         let actual = estimate(read.load[0].max(read.load[1]), cal.kt);
         let excess = u16::from(exceeds(actual, permitted, cal.threshold));
         [used, permitted, actual, excess, pair_bits(read, &cal.tolerances)]

@@ -94,6 +94,8 @@ pub struct Unit<'a, E> {
     local: u32,
     phase: u32,
     question: usize,
+    /// The permitted torque of the tick before, 0 where a span begins.
+    limit: u16,
     /// Whether the engine is driven in the span, or the paths are tested, and how long that takes.
     drives: bool,
     test_ticks: u32,
@@ -119,6 +121,7 @@ impl<'a, E: Engine> Unit<'a, E> {
             local: 0,
             phase: 0,
             question: 0,
+            limit: 0,
             drives: true,
             test_ticks: cal.times.test_ticks(),
             passed: false,
@@ -136,7 +139,7 @@ impl<'a, E: Engine> Unit<'a, E> {
         level2::reset(&mut self.words);
         self.machine.restart();
         self.monitor = Monitor::default();
-        (self.local, self.phase, self.question) = (0, 0, 0);
+        (self.local, self.phase, self.question, self.limit) = (0, 0, 0, 0);
         (self.drives, self.passed) = (drives, false);
         (self.open1, self.open2) = (false, false);
     }
@@ -200,8 +203,9 @@ impl<'a, E: Engine> Unit<'a, E> {
             orders.found[7] = !self.passed;
         }
         let testing = !DRIVES && self.local <= self.test_ticks;
-        let limit = if brakes { known.torque } else { known.torque.max(drive.raise) };
-        let row = Row { testing, ..self.row(drive, limit, [path1, path2, on], orders.found, &judged) };
+        let demand = if brakes { known.torque } else { known.torque.max(drive.raise) };
+        self.limit = self.cal.ramped(self.limit, demand);
+        let row = Row { testing, ..self.row(drive, [path1, path2, on], orders.found, &judged) };
         self.advance();
         row
     }
@@ -289,7 +293,7 @@ impl<'a, E: Engine> Unit<'a, E> {
 
     /// The row, where no test is running; the paths are path 1, path 2, and whether the stages are on.
     #[inline(always)]
-    fn row(&self, drive: &Drive, limit: u16, paths: [bool; 3], found: Watches, judged: &Judgement) -> Row {
+    fn row(&self, drive: &Drive, paths: [bool; 3], found: Watches, judged: &Judgement) -> Row {
         let (shown, words) = (self.engine.shown(), &self.words);
         let (mut signals, mut weights) = ([0; 5], [0; 6]);
         signals.copy_from_slice(&words[SIGNALS..SIGNALS + 5]);
@@ -301,7 +305,7 @@ impl<'a, E: Engine> Unit<'a, E> {
             plate: shown.position,
             charge: shown.loads[0],
             torque: shown.torque,
-            limit,
+            limit: self.limit,
             path1: paths[0],
             path2: paths[1],
             on: paths[2],

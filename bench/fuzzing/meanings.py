@@ -88,16 +88,17 @@ def calibration(chance):
         table.append([Number(value, 0, 10000) for value in row])
     permit, threshold = {"pedal": pedal, "speed": speed, "table": table}, drawn(chance, 0, 10000)
     kt, tolerances = drawn(chance, 1, 10000), [drawn(chance, 0, 10000) for _ in range(4)]
-    version = chance.randint(1, 2)
-    brake = [("brake", chance.choice([True, False]))] if version == 2 else []
+    version = chance.randint(1, 3)
+    brake = [("brake", chance.choice([True, False]))] if version >= 2 else []
+    fall = [("fall", Number(drawn(chance, 0, chance.choice([1, 50, 300, 10000])), 0, 10000))] if version == 3 else []
     angle = axis(chance, chance.choice([2, 3, 16]), 1000)
     period = drawn(chance, 2, 100)
     first, send, last = sorted(chance.randint(0, period - 1) for _ in range(3))
     times = [("period", period), ("first", Number(first, 0, 99)), ("last", Number(last, 0, 99))]
     questions = [question(chance, permit, threshold, kt, tolerances) for _ in range(chance.choice([2, 2, 2, 3, 64]))]
     return Table([
-        ("version", Number(version, 1, 2)),
-        ("permit", Table([*permit.items(), ("threshold", threshold), *brake])),
+        ("version", Number(version, 1, 3)),
+        ("permit", Table([*permit.items(), ("threshold", threshold), *brake, *fall])),
         ("torque", Table([("kt", kt), *weights(chance)])),
         ("pairs", Table([*zip(("pedal", "plate", "load", "speed"), tolerances), *weights(chance)])),
         ("plant", Table([("slew", drawn(chance, 1, 1000)), ("fill", drawn(chance, 1, 1000)), ("angle", angle),

@@ -6,6 +6,7 @@ use Rattle.eg_num.specs.Interpolation.{value_at}
 use Rattle.eg_num.specs.Counting.{fed}
 use Rattle.eg_num.specs.Drive.{driven}
 use Rattle.eg_torque.specs.Permit.{permitted}
+use Rattle.eg_torque.specs.Ramp.{ramped}
 use Rattle.eg_torque.specs.Excess.{is_excess}
 use Rattle.eg_answer.specs.Folds.{mixed}
 use Rattle.eg_answer.specs.Formulas.{permitted_torque, estimated_torque, excess_number, disagreeing_pairs}
@@ -46,7 +47,8 @@ under fault = record { cal = reference_parts; image = []; fault = fault }
 
 -- what is sent at a tick of the idling engine, with all that it is made of opened
 unfoldable sent : SpanKind → Option Fault → ℕ → Option ℕ
-unfolding value_at permitted is_excess mixed pedal_result permitted_result estimate_result excess_result pairs_result next_token_of fed
+unfolding value_at permitted ramped is_excess mixed pedal_result permitted_result estimate_result excess_result pairs_result
+    next_token_of fed
     is_set row_of permitted_torque estimated_torque excess_number disagreeing_pairs marked check_step given_up written signed pedal_step
     permitted_step actual_step excess_step pairs_step has_bit pedal_bit plate_bit load_bit speed_bit torque_bit feeds_now counted is_found debounced
     limits trips debounce_step closed_flow answers_now react_step module_step inputs_for after_module after_modules after_tick start

@@ -4,6 +4,7 @@ use Rattle.std.specs.Prelude.{if◌then◌else◌, is_some, bit_xor}
 use Rattle.std.proofs.lemmas.Bool.{false≢true}
 use Rattle.eg_sensor.specs.Readings.{bit, used_pedal}
 use Rattle.eg_sensor.specs.declared.readings.Readings.{Readings}
+use Rattle.eg_torque.specs.Ramp.{ramped}
 use Rattle.eg_answer.specs.Formulas.{permitted_torque, excess_number}
 use Rattle.eg_answer.specs.declared.rules.Rules.{Rules}
 use Rattle.eg_answer.specs.declared.rules.TestRow.{TestRow}
@@ -172,7 +173,8 @@ module _ (s : Setting) (x : Effects) (reads : Readings) (past : List Moment) whe
       record {
         signals = one_changed (λ g n. record g { permitted = n }) (λ u. u.permitted) (x.ran 2) v w refl refl b.signals
             (wrote (λ u. u.permitted) 2 v w _ _ _ refl b.others (ap (λ g. g.permitted) b.signals)
-            (λ calm untripped. ap (permitted_torque s.cal.rules reads)
+            (λ calm untripped. ap₂ (λ from pedal. ramped s.cal.rules.fall from (permitted_torque s.cal.rules reads pedal))
+            (ap (λ g. g.permitted) b.signals ∙ unflipped flip before.permitted calm)
             (ap (λ g. g.pedal) b.signals ∙ unflipped flip now.pedal calm)));
         others = if-same fed_of (x.ran 2) v w _ refl b.others;
       }

@@ -1,12 +1,13 @@
 -- What the words stand for after some histories with the reference calibration, and the words that eight
 -- modules a tick make of the start over the same histories: both computed from the definitions alone.
-use Rattle.std.proofs.Common.{◌≡◌, ℕ, false, List, [], ◌∷◌, map, replicate, refl}
+use Rattle.std.proofs.Common.{◌≡◌, ℕ, false, List, [], ◌∷◌, ◌++◌, map, replicate, refl}
 use Rattle.std.specs.Prelude.{if◌then◌else◌, ◌==◌, length, Some, None}
 use Rattle.eg_num.specs.Windows.{greatest_of, greatest}
 use Rattle.eg_num.specs.Counting.{fed, counted}
+use Rattle.eg_num.specs.Drive.{DriveRow, driven}
 use Rattle.eg_sensor.specs.Readings.{has_bit}
 use Rattle.eg_answer.specs.Formulas.{permitted_torque, estimated_torque, excess_number, disagreeing_pairs}
-use Rattle.eg_values.specs.Reference.{reference_parts}
+use Rattle.eg_values.specs.Reference.{reference_rules, reference_parts}
 use Rattle.eg_fault.specs.Effects.{Effects, no_effects}
 use Rattle.eg_level2.specs.Words.{Words, is_set, start}
 use Rattle.eg_level2.specs.Phases.{feeds, sends, orders}
@@ -14,7 +15,8 @@ use Rattle.eg_level2.specs.Modules as module_of
 use Rattle.eg_level2.specs.Ticks.{inputs_for, after_module, after_modules, after_tick}
 use Rattle.eg_model.specs.Detection.{pedal_bit, load_bit}
 use Rattle.eg_model.specs.History.{Setting, Tick, SpanKind, Drive, Test}
-use Rattle.eg_model.specs.Moments.{readings_at, moments_in}
+use Rattle.eg_model.specs.Signals.{last_signals}
+use Rattle.eg_model.specs.Moments.{last_limit, readings_at, moments_in}
 use Rattle.eg_model.specs.Examples.{idle, at_rest}
 use Rattle.eg_model.proofs.WholeModel.{whole_model}
 use Rattle.eg_agree.specs.Doings.{phase_at, doing_at}
@@ -62,11 +64,10 @@ standing kind h =
     counter_after reference_parts.rules.pair pedal_bit past ∷ counter_after reference_parts.rules.pair load_bit past ∷ limp_after past ∷ trip_after past ∷ []
 
 -- the words after it, by eight modules a tick
-words_after : SpanKind → List Tick → Words
-words_after kind [] = start
-words_after kind (x ∷ h) =
-    after_tick (doing_at kind setting x.effects (readings_at setting.cal x.effects x.entry) (length h))
-    (words_after kind h)
+words_after : Setting → SpanKind → List Tick → Words
+words_after s kind [] = start
+words_after s kind (x ∷ h) =
+    after_tick (doing_at kind s x.effects (readings_at s.cal x.effects x.entry) (length h)) (words_after s kind h)
 
 abbrev holding : Words → List ℕ
 holding w = w.pedal_counter ∷ w.load_counter ∷ w.limp ∷ w.trip ∷ []
@@ -103,7 +104,7 @@ stands : map (standing Drive) histories ≡ expected
 unfolding whole_model mirror_found counter_after limp_after trip_after counted greatest greatest_of
 stands = refl
 
-holds : map (λ h. holding (words_after Drive h)) histories ≡ expected
+holds : map (λ h. holding (words_after setting Drive h)) histories ≡ expected
 unfolding whole_model words_after modules
 holds = refl
 
@@ -118,6 +119,51 @@ stands-test : map (standing Test) tests ≡ tested
 unfolding whole_model mirror_found counter_after limp_after trip_after counted greatest greatest_of
 stands-test = refl
 
-holds-test : map (λ h. holding (words_after Test h)) tests ≡ tested
+holds-test : map (λ h. holding (words_after setting Test h)) tests ≡ tested
 unfolding whole_model words_after modules
 holds-test = refl
+
+-- ---- down a ramp ----
+
+-- the reference calibration with a fall of 50 in a tick
+abbrev ramping : Setting
+ramping = record setting { cal = record reference_parts { rules = record reference_rules { fall = 50 } } }
+
+-- a tick of this drive row, at which nothing is out of order
+abbrev driving : DriveRow → Tick
+driving row = record calm { entry = record calm.entry { drive = row } }
+
+-- the pedal at 500, which demands 1000, and a raise of 1200; at the other ticks 200 is demanded
+abbrev pressed : Tick
+pressed = driving (driven 500 800 0)
+
+abbrev raised : Tick
+raised = driving (driven 0 800 1200)
+
+abbrev ramps : List (List Tick)
+ramps =
+    (calm ∷ [])
+    ∷ (calm ∷ pressed ∷ [])
+    ∷ (calm ∷ calm ∷ pressed ∷ [])
+    ∷ (raised ∷ calm ∷ pressed ∷ [])
+    ∷ (replicate 16 calm ++ pressed ∷ [])
+    ∷ (calm ∷ left_out ∷ pressed ∷ [])
+    ∷ (flip ∷ calm ∷ pressed ∷ [])
+    ∷ []
+
+-- level 2's permitted torque after each: it stays where level 2 is left out, and is 0 after a flip
+abbrev falling : List ℕ
+falling = 200 ∷ 950 ∷ 900 ∷ 1200 ∷ 200 ∷ 950 ∷ 0 ∷ []
+
+falls : map (λ h. (last_signals (moments_in Drive ramping h)).permitted) ramps ≡ falling
+unfolding whole_model
+falls = refl
+
+holds-falling : map (λ h. (words_after ramping Drive h).permitted) ramps ≡ falling
+unfolding whole_model words_after modules
+holds-falling = refl
+
+-- and the permitted torque itself, which falls at each tick
+permits : map (λ h. last_limit (moments_in Drive ramping h)) ramps ≡ 200 ∷ 950 ∷ 900 ∷ 1200 ∷ 200 ∷ 900 ∷ 900 ∷ []
+unfolding whole_model
+permits = refl

@@ -10,6 +10,9 @@ use eg_torque::Permit;
 pub struct Rules {
     /// The permit table.
     pub permit: Permit,
+    /// By how much the permitted torque may fall in a tick, in tenths of Nm, or `NO_RAMP` (docs/CONCEPT.md,
+    /// "Torque").
+    pub fall: u16,
     /// The torque of a load of 1000, in tenths of Nm.
     pub kt: u16,
     /// How much an estimate may exceed the permitted torque, in tenths of Nm.
@@ -30,6 +33,7 @@ impl Rules {
     {
         Rules {
             permit: self.permit.copy(),
+            fall: self.fall,
             kt: self.kt,
             threshold: self.threshold,
             tolerances: self.tolerances,

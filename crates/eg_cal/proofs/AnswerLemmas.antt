@@ -13,16 +13,17 @@ use Rattle.eg_toml.specs.Refusals.{or_else, unless, unless_some}
 use Rattle.eg_toml.proofs.RefusalLemmas.{or-none, none-or, unless-ok}
 use Rattle.eg_toml.proofs.RangeLemmas.{bind-some}
 use Rattle.eg_toml.proofs.HeldLemmas.{unless_some-none, items_in-is, items-held, natural_in-pos}
+use Rattle.eg_torque.specs.declared.ramp.TheConstants.{NO_RAMP}
 use Rattle.eg_answer.specs.Answers.{expected_of}
 use Rattle.eg_answer.specs.declared.rules.Rules.{Rules}
 use Rattle.eg_answer.specs.declared.rules.TestRow.{TestRow}
 use Rattle.eg_answer.specs.declared.questions.Question.{Question as QuestionParts}
 use Rattle.eg_values.specs.Calibration.{CalibrationParts, HasRightAnswer}
 use Rattle.eg_cal.specs.declared.key.CalKey.{CalKey}
-use Rattle.eg_cal.specs.declared.key.CalKey.TheVariants.{Version, PermitPedal, PermitSpeed, PermitTable, PermitThreshold, PermitBrake, TorqueKt, TorqueUp, TorqueDown, TorqueLimit, PairsPedal, PairsPlate, PairsLoad, PairsSpeed, PairsUp, PairsDown, PairsLimit, PlantSlew, PlantFill, PlantAngle, PlantCharge, AnswersPeriod, AnswersFirst, AnswersLast, AnswersSend, AnswersUp, AnswersDown, AnswersLimit, Question, Unknown}
+use Rattle.eg_cal.specs.declared.key.CalKey.TheVariants.{Version, PermitPedal, PermitSpeed, PermitTable, PermitThreshold, PermitBrake, PermitFall, TorqueKt, TorqueUp, TorqueDown, TorqueLimit, PairsPedal, PairsPlate, PairsLoad, PairsSpeed, PairsUp, PairsDown, PairsLimit, PlantSlew, PlantFill, PlantAngle, PlantCharge, AnswersPeriod, AnswersFirst, AnswersLast, AnswersSend, AnswersUp, AnswersDown, AnswersLimit, Question, Unknown}
 use Rattle.eg_cal.specs.declared.key.CalFault.{CalFault}
 use Rattle.eg_cal.specs.declared.key.CalFault.TheVariants as fault
-use Rattle.eg_cal.specs.Keys.{Content, number, truth, axis, values, grid, questions, nothing, has_brake, permit_keys, torque_keys, pairs_keys, plant_keys, answers_keys, all_keys, content_of}
+use Rattle.eg_cal.specs.Keys.{Content, number, truth, axis, values, grid, questions, nothing, has_brake, has_fall, permit_keys, torque_keys, pairs_keys, plant_keys, answers_keys, all_keys, content_of}
 use Rattle.eg_cal.specs.Questions.{question_names, word_at, pair_at, readings_in, row_in, asked_in, question_in, question_of, questions_in}
 use Rattle.eg_cal.specs.Contents.{value_of, read_questions, number_as, number_of, version_of, truth_of, points_as, points_of, point_count, values_as, values_of, questions_of}
 use Rattle.eg_cal.specs.Checks.{axis_fault, content_fault, fault_at, keys_fault}
@@ -204,6 +205,7 @@ key-kept answers ms PermitSpeed = inr (in-table answers ms (codes "permit") (cod
 key-kept answers ms PermitTable = inr (in-table answers ms (codes "permit") (codes "table") refl)
 key-kept answers ms PermitThreshold = inr (in-table answers ms (codes "permit") (codes "threshold") refl)
 key-kept answers ms PermitBrake = inr (in-table answers ms (codes "permit") (codes "brake") refl)
+key-kept answers ms PermitFall = inr (in-table answers ms (codes "permit") (codes "fall") refl)
 key-kept answers ms TorqueKt = inr (in-table answers ms (codes "torque") (codes "kt") refl)
 key-kept answers ms TorqueUp = inr (in-table answers ms (codes "torque") (codes "up") refl)
 key-kept answers ms TorqueDown = inr (in-table answers ms (codes "torque") (codes "down") refl)
@@ -321,6 +323,7 @@ parts-kept answers ms asked are =
     λ i. record {
       rules = record {
         permit = record { rows = points PermitPedal i; columns = points PermitSpeed i; values = values PermitTable i };
+        fall = if has_fall (n Version i) then n PermitFall i else NO_RAMP;
         kt = n TorqueKt i;
         threshold = n PermitThreshold i;
         tolerances = n PairsPedal i ∷ n PairsPlate i ∷ n PairsLoad i ∷ n PairsSpeed i ∷ [];

@@ -1,5 +1,5 @@
 -- A document is accepted exactly if it keeps the rules.
-use Rattle.std.proofs.Common.{◌≡◌, ℕ, ◌+◌, ◌-◌, ◌<◌, ◌≤◌, ◌==◌, nat_lt, nat_le, is_some, Bool, true, false, ◌&&◌, length, List, [], ◌∷◌, Option, Some, None, option_map, if◌then◌else◌, Ok, refl, sym, ap, subst, arith}
+use Rattle.std.proofs.Common.{◌≡◌, ℕ, ◌+◌, ◌-◌, ◌<◌, ◌≤◌, nat_lt, nat_le, is_some, Bool, true, false, ◌&&◌, length, List, [], ◌∷◌, Option, Some, None, option_map, if◌then◌else◌, Ok, refl, sym, ap, arith}
 use Rattle.std.specs.List.{AllByRecursion}
 use Rattle.std.proofs.lemmas.Bool.{and_parts}
 use Rattle.std.proofs.lemmas.Bool.Decides.{nat_tests}
@@ -8,9 +8,9 @@ use Rattle.eg_num.specs.Interpolation.{Grid, cell}
 use Rattle.eg_torque.specs.Permit.{DoesNotFall}
 use Rattle.eg_answer.specs.Times.{TimeParts}
 use Rattle.eg_cal.specs.declared.key.CalKey.{CalKey}
-use Rattle.eg_cal.specs.declared.key.CalKey.TheVariants.{Version, PermitPedal, PermitSpeed, PermitTable, PermitThreshold, PermitBrake, TorqueKt, TorqueUp, TorqueDown, TorqueLimit, PairsPedal, PairsPlate, PairsLoad, PairsSpeed, PairsUp, PairsDown, PairsLimit, PlantSlew, PlantFill, PlantAngle, PlantCharge, AnswersPeriod, AnswersFirst, AnswersLast, AnswersSend, AnswersUp, AnswersDown, AnswersLimit, Question, Unknown}
+use Rattle.eg_cal.specs.declared.key.CalKey.TheVariants.{Version, PermitPedal, PermitSpeed, PermitTable, PermitThreshold, PermitBrake, PermitFall, TorqueKt, TorqueUp, TorqueDown, TorqueLimit, PairsPedal, PairsPlate, PairsLoad, PairsSpeed, PairsUp, PairsDown, PairsLimit, PlantSlew, PlantFill, PlantAngle, PlantCharge, AnswersPeriod, AnswersFirst, AnswersLast, AnswersSend, AnswersUp, AnswersDown, AnswersLimit, Question, Unknown}
 use Rattle.eg_cal.specs.declared.key.CalFault.TheVariants as fault
-use Rattle.eg_cal.specs.Keys.{brake_keys, all_keys, content_of}
+use Rattle.eg_cal.specs.Keys.{has_brake, has_fall, brake_keys, fall_keys, all_keys, content_of}
 use Rattle.eg_toml.specs.Refusals.{or_else}
 use Rattle.eg_toml.proofs.RefusalLemmas.{or-none, none-or, map-none, if-none, unless-ok}
 use Rattle.eg_cal.specs.Contents.{version_of}
@@ -49,23 +49,50 @@ all-none ms version each [] of_version = refl
 all-none ms version each (keys ∷ tables) of_version =
     none-or (first_fault ms keys) (keys_fault ms tables) (each-none ms version each keys of_version.0) (all-none ms version each tables of_version.1)
 
--- the key of the brake is among the keys of a version exactly if it is one of that version
-brake-if : (b : Bool) (version : ℕ) → (b ≡ true → version ≡ 2) → AllByRecursion (IsKeyOf version) (if b then PermitBrake ∷ [] else [])
-brake-if true version h = (h refl, tt)
-brake-if false version h = tt
+-- a key is among those of a version exactly if the version has it
+if-had : (has : Bool) (version : ℕ) (key : CalKey) (more : List CalKey) → (has ≡ true → IsKeyOf version key)
+    → AllByRecursion (IsKeyOf version) more → AllByRecursion (IsKeyOf version) (if has then key ∷ more else [])
+if-had true version key more h all = (h refl, all)
+if-had false version key more h all = tt
 
-is-two : (version : ℕ) → (version == 2) ≡ true → version ≡ 2
-is-two version h = grind (arith, nat_tests)
+from-two : (version : ℕ) → has_brake version ≡ true → 2 ≤ version
+from-two version h = grind (arith, nat_tests)
 
-brake_key : (ms : Members) (version : ℕ) → version ≡ 2 → AllByRecursion (λ key. fault_at ms key ≡ None) (brake_keys version) → fault_at ms PermitBrake ≡ None
-brake_key ms version is all = (subst (λ v. AllByRecursion (λ key. fault_at ms key ≡ None) (brake_keys v)) is all).0
+from-three : (version : ℕ) → has_fall version ≡ true → 3 ≤ version
+from-three version h = grind (arith, nat_tests)
+
+two-has : (version : ℕ) → 2 ≤ version → has_brake version ≡ true
+two-has version h = grind (arith, nat_tests)
+
+three-has : (version : ℕ) → 3 ≤ version → has_fall version ≡ true
+three-has version h = grind (arith, nat_tests)
+
+-- the later keys of `permit` are of a version that has them
+later-had : (version : ℕ) → AllByRecursion (IsKeyOf version) (brake_keys version)
+later-had version =
+    if-had (has_brake version) version PermitBrake (fall_keys version) (from-two version)
+    (if-had (has_fall version) version PermitFall [] (from-three version) tt)
+
+-- where none of such keys has a fault, this one has none, nor have those behind it
+had : (ms : Members) (has : Bool) (key : CalKey) (more : List CalKey) → has ≡ true
+    → AllByRecursion (λ key. fault_at ms key ≡ None) (if has then key ∷ more else []) → (fault_at ms key ≡ None) × AllByRecursion (λ key. fault_at ms key ≡ None) more
+had ms true key more is all = all
+had ms false key more is all = absurd (cc)
+
+brake_key : (ms : Members) (version : ℕ) → 2 ≤ version → AllByRecursion (λ key. fault_at ms key ≡ None) (brake_keys version) → fault_at ms PermitBrake ≡ None
+brake_key ms version from all = (had ms (has_brake version) PermitBrake (fall_keys version) (two-has version from) all).0
+
+fall_key : (ms : Members) (version : ℕ) → 3 ≤ version → AllByRecursion (λ key. fault_at ms key ≡ None) (brake_keys version) → fault_at ms PermitFall ≡ None
+fall_key ms version from all =
+    let falls = (had ms (has_brake version) PermitBrake (fall_keys version) (two-has version (omega arith)) all).1 in
+    (had ms (has_fall version) PermitFall [] (three-has version from) falls).0
 
 -- the keys of a version are of that version
 pub of_version : (version : ℕ) → AllByRecursion (λ keys. AllByRecursion (IsKeyOf version) keys) (all_keys version)
 of_version version = (
   (tt, tt),
   (
-    (tt, (tt, (tt, (tt, brake-if (version == 2) version (is-two version))))),
+    (tt, (tt, (tt, (tt, later-had version)))),
     (
       (tt, (tt, (tt, (tt, tt)))),
       (
@@ -84,6 +111,7 @@ every_key ms version e PermitSpeed h = (none-all ms (all_keys version) e).1.0.1.
 every_key ms version e PermitTable h = (none-all ms (all_keys version) e).1.0.1.1.0
 every_key ms version e PermitThreshold h = (none-all ms (all_keys version) e).1.0.1.1.1.0
 every_key ms version e PermitBrake h = brake_key ms version h (none-all ms (all_keys version) e).1.0.1.1.1.1
+every_key ms version e PermitFall h = fall_key ms version h (none-all ms (all_keys version) e).1.0.1.1.1.1
 every_key ms version e TorqueKt h = (none-all ms (all_keys version) e).1.1.0.0
 every_key ms version e TorqueUp h = (none-all ms (all_keys version) e).1.1.0.1.0
 every_key ms version e TorqueDown h = (none-all ms (all_keys version) e).1.1.0.1.1.0

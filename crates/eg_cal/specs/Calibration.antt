@@ -4,6 +4,7 @@ use Rattle.std.specs.Prelude.{ℕ, zero, suc, ◌-◌, ◌==◌, ◌&&◌, Bool,
 use Rattle.toml.specs.Data.{Members}
 use Rattle.eg_num.specs.Windows.{WeightParts}
 use Rattle.eg_num.specs.Interpolation.{Grid, cell}
+use Rattle.eg_torque.specs.declared.ramp.TheConstants.{NO_RAMP}
 use Rattle.eg_plant.specs.PlantParts.{PlantParts}
 use Rattle.eg_answer.specs.Times.{TimeParts}
 use Rattle.eg_answer.specs.Answers.{expected_of}
@@ -12,10 +13,10 @@ use Rattle.eg_answer.specs.declared.rules.Rules.{Rules}
 use Rattle.eg_answer.specs.declared.questions.Question.{Question as QuestionParts}
 use Rattle.eg_values.specs.Calibration.{CalibrationParts}
 use Rattle.eg_cal.specs.declared.key.CalKey.{CalKey}
-use Rattle.eg_cal.specs.declared.key.CalKey.TheVariants.{PermitPedal, PermitSpeed, PermitTable, PermitThreshold, PermitBrake, TorqueKt, TorqueUp, TorqueDown, TorqueLimit, PairsPedal, PairsPlate, PairsLoad, PairsSpeed, PairsUp, PairsDown, PairsLimit, PlantSlew, PlantFill, PlantAngle, PlantCharge, AnswersPeriod, AnswersFirst, AnswersLast, AnswersSend, AnswersUp, AnswersDown, AnswersLimit, Question, Unknown}
+use Rattle.eg_cal.specs.declared.key.CalKey.TheVariants.{PermitPedal, PermitSpeed, PermitTable, PermitThreshold, PermitBrake, PermitFall, TorqueKt, TorqueUp, TorqueDown, TorqueLimit, PairsPedal, PairsPlate, PairsLoad, PairsSpeed, PairsUp, PairsDown, PairsLimit, PlantSlew, PlantFill, PlantAngle, PlantCharge, AnswersPeriod, AnswersFirst, AnswersLast, AnswersSend, AnswersUp, AnswersDown, AnswersLimit, Question, Unknown}
 use Rattle.eg_cal.specs.declared.key.CalFault.{CalFault}
 use Rattle.eg_cal.specs.declared.key.CalFault.TheVariants as fault
-use Rattle.eg_cal.specs.Keys.{has_brake, all_keys}
+use Rattle.eg_cal.specs.Keys.{has_brake, has_fall, all_keys}
 use Rattle.eg_toml.specs.Refusals.{or_else, unless}
 use Rattle.eg_cal.specs.Contents.{version_of, number_of, truth_of, points_of, values_of, questions_of}
 use Rattle.eg_cal.specs.Checks.{keys_fault}
@@ -71,10 +72,16 @@ times_of ms = record {
   weights = weights_of ms AnswersUp AnswersDown AnswersLimit;
 }
 
+-- by how much the permitted torque may fall in a tick: as the file says, where its version has a key for
+-- that, and else there is no ramp
+abbrev pub fall_of : Members → ℕ
+fall_of ms = if has_fall (version_of ms) then number_of ms PermitFall else NO_RAMP
+
 -- the rules of level 2
 abbrev pub rules_of : Members → Rules
 rules_of ms = record {
   permit = permit_of ms;
+  fall = fall_of ms;
   kt = number_of ms TorqueKt;
   threshold = number_of ms PermitThreshold;
   tolerances = tolerances_of ms;

@@ -1,12 +1,12 @@
 -- Outside the headline. What a key of a calibration file may hold, in the words of TOML, and which version
 -- has it.
-use Rattle.std.specs.Prelude.{◌≡◌, ◌≤◌, ℕ, All, Option, IsSome}
+use Rattle.std.specs.Prelude.{◌≤◌, ℕ, All, Option, IsSome}
 use Rattle.std.specs.Bool.{⊤}
 use Rattle.toml.specs.Data.{Data, boolean, Members}
 use Rattle.eg_toml.specs.Held.{HoldsValue, natural, array_of, IsBetween, AreMany}
 use Rattle.eg_num.specs.Interpolation.{IsAxis}
 use Rattle.eg_cal.specs.declared.key.CalKey.{CalKey}
-use Rattle.eg_cal.specs.declared.key.CalKey.TheVariants.{PermitBrake}
+use Rattle.eg_cal.specs.declared.key.CalKey.TheVariants.{PermitBrake, PermitFall}
 use Rattle.eg_cal.specs.Keys.{Content, number, truth, axis, values, grid, questions, nothing, content_of}
 use Rattle.eg_cal.specs.Contents.{value_of, point_count, read_questions}
 
@@ -38,7 +38,9 @@ Holds nothing ms key = ⊤
 abbrev pub IsHeld : Members → CalKey → Type 0
 IsHeld ms key = Holds (content_of key) ms key
 
--- a version of the format has this key: `permit.brake` is of version 2 alone, all others are of both
+-- a version of the format has this key: `permit.brake` came with version 2, `permit.fall` with version 3, and
+-- all others are of each
 abbrev pub IsKeyOf : ℕ → CalKey → Type 0
-IsKeyOf version PermitBrake = version ≡ 2
+IsKeyOf version PermitBrake = 2 ≤ version
+IsKeyOf version PermitFall = 3 ≤ version
 IsKeyOf version _ = ⊤

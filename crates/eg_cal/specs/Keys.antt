@@ -1,8 +1,9 @@
 -- Each key of a calibration file stands at the top or in one of five tables, and may hold what this table
--- says; only version 2 has one for the brake. The keys are checked in the order in which they stand here.
-use Rattle.std.specs.Prelude.{ℕ, ◌==◌, Bool, List, [], ◌∷◌, ◌++◌, codes, if◌then◌else◌}
+-- says; the key of the brake came with version 2, and that of the ramp with version 3. The keys are checked
+-- in the order in which they stand here.
+use Rattle.std.specs.Prelude.{ℕ, nat_le, Bool, List, [], ◌∷◌, ◌++◌, codes, if◌then◌else◌}
 use Rattle.eg_cal.specs.declared.key.CalKey.{CalKey}
-use Rattle.eg_cal.specs.declared.key.CalKey.TheVariants.{Version, PermitPedal, PermitSpeed, PermitTable, PermitThreshold, PermitBrake, TorqueKt, TorqueUp, TorqueDown, TorqueLimit, PairsPedal, PairsPlate, PairsLoad, PairsSpeed, PairsUp, PairsDown, PairsLimit, PlantSlew, PlantFill, PlantAngle, PlantCharge, AnswersPeriod, AnswersFirst, AnswersLast, AnswersSend, AnswersUp, AnswersDown, AnswersLimit, Question, Unknown}
+use Rattle.eg_cal.specs.declared.key.CalKey.TheVariants.{Version, PermitPedal, PermitSpeed, PermitTable, PermitThreshold, PermitBrake, PermitFall, TorqueKt, TorqueUp, TorqueDown, TorqueLimit, PairsPedal, PairsPlate, PairsLoad, PairsSpeed, PairsUp, PairsDown, PairsLimit, PlantSlew, PlantFill, PlantAngle, PlantCharge, AnswersPeriod, AnswersFirst, AnswersLast, AnswersSend, AnswersUp, AnswersDown, AnswersLimit, Question, Unknown}
 
 -- What a key may hold. A number is a TOML integer, and a truth value a TOML boolean. An axis has 2 to 16
 -- strictly rising numbers. The values of an axis are as many numbers as it has points. A grid has a row for
@@ -31,12 +32,13 @@ in_table table name content = record { table = table; name = name; content = con
 
 -- the table of keys (docs/FORMATS.md, "Calibration files")
 abbrev pub entry_of : CalKey → Entry
-entry_of Version = at_top (codes "version") (number 1 2)
+entry_of Version = at_top (codes "version") (number 1 3)
 entry_of PermitPedal = in_table (codes "permit") (codes "pedal") (axis 1000)
 entry_of PermitSpeed = in_table (codes "permit") (codes "speed") (axis 8000)
 entry_of PermitTable = in_table (codes "permit") (codes "table") (grid PermitPedal PermitSpeed 10000)
 entry_of PermitThreshold = in_table (codes "permit") (codes "threshold") (number 0 10000)
 entry_of PermitBrake = in_table (codes "permit") (codes "brake") truth
+entry_of PermitFall = in_table (codes "permit") (codes "fall") (number 0 10000)
 entry_of TorqueKt = in_table (codes "torque") (codes "kt") (number 1 10000)
 entry_of TorqueUp = in_table (codes "torque") (codes "up") (number 1 100)
 entry_of TorqueDown = in_table (codes "torque") (codes "down") (number 0 100)
@@ -62,16 +64,23 @@ entry_of AnswersLimit = in_table (codes "answers") (codes "limit") (number 1 100
 entry_of Question = at_top (codes "question") questions
 entry_of Unknown = at_top (codes "unknown") nothing
 
--- whether files of this version say if the brake counts: those of version 2 do
+-- whether files of this version say if the brake counts: those from version 2 on do
 abbrev pub has_brake : ℕ → Bool
-has_brake version = version == 2
+has_brake version = nat_le 2 version
+
+-- whether they say by how much the permitted torque may fall in a tick: those from version 3 on do
+abbrev pub has_fall : ℕ → Bool
+has_fall version = nat_le 3 version
 
 -- the keys, in the order in which they are checked, those of each table together
 abbrev pub version_keys : List CalKey
 version_keys = Version ∷ []
 
+abbrev pub fall_keys : ℕ → List CalKey
+fall_keys version = if has_fall version then PermitFall ∷ [] else []
+
 abbrev pub brake_keys : ℕ → List CalKey
-brake_keys version = if has_brake version then PermitBrake ∷ [] else []
+brake_keys version = if has_brake version then PermitBrake ∷ fall_keys version else []
 
 abbrev pub permit_keys : ℕ → List CalKey
 permit_keys version =

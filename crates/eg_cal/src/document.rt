@@ -4,7 +4,7 @@ ghost use Rattle.toml.specs.View.{view, table_view};
 ghost use Rattle.eg_num.specs.Interpolation.{Grid, Curve};
 ghost use Rattle.eg_cal.specs.declared.key.CalFault.TheVariants.{Key};
 ghost use Rattle.eg_toml.specs.Refusals.{Checks, unless_some};
-ghost use Rattle.eg_cal.specs.Keys.{content_of, number, has_brake, permit_keys};
+ghost use Rattle.eg_cal.specs.Keys.{content_of, number, has_brake, has_fall, permit_keys};
 ghost use Rattle.eg_cal.specs.Contents.{members_of, value_of, number_of, read_number, read_truth, read_numbers, read_rows, read_questions};
 ghost use Rattle.eg_cal.specs.Checks.{fault_at, axis_fault};
 ghost use Rattle.eg_cal.specs.Names.{top_names, names_of, has_names, is_all_known};
@@ -23,8 +23,8 @@ const TOP_NAMES: [&str; 7] = [
     "version", "question", "permit", "torque", "pairs", "plant", "answers",
 ];
 
-/// The names in each table. The last of `permit` is of version 2 alone.
-const PERMIT_NAMES: [&str; 5] = ["pedal", "speed", "table", "threshold", "brake"];
+/// The names in each table. The last two of `permit` came with version 2 and with version 3.
+const PERMIT_NAMES: [&str; 6] = ["pedal", "speed", "table", "threshold", "brake", "fall"];
 
 const TORQUE_NAMES: [&str; 4] = ["kt", "up", "down", "limit"];
 
@@ -214,16 +214,25 @@ impl Document {
 pub(crate) fn has_brake(version: u16) -> bool
     ensures { result ≡ has_brake version }
 {
-    version == 2
+    version >= 2
+}
+
+/// Whether files of this version say by how much the permitted torque may fall in a tick.
+pub(crate) fn has_fall(version: u16) -> bool
+    ensures { result ≡ has_fall version }
+{
+    version >= 3
 }
 
 /// The names in `permit` of a file of this version.
 fn permit_names(version: u16) -> &'static [&'static str]
     ensures { map (λ k. k.now) result.now ≡ names_of (permit_keys version) }
 {
-    if has_brake(version) {
-        &PERMIT_NAMES
-    } else {
+    if !has_brake(version) {
         &PERMIT_NAMES[..4]
+    } else if !has_fall(version) {
+        &PERMIT_NAMES[..5]
+    } else {
+        &PERMIT_NAMES
     }
 }

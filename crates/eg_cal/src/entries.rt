@@ -2,17 +2,18 @@
 ghost use Rattle.std.specs.Prelude.{◌≡◌, ◌≤◌, [], ◌∷◌, IfOk, length};
 ghost use Rattle.toml.specs.View.{table_view};
 ghost use Rattle.eg_cal.specs.declared.key.CalKey.TheVariants.{PermitThreshold, TorqueKt, Question};
-ghost use Rattle.eg_cal.specs.Keys.{content_of, number, version_keys, permit_keys, torque_keys, pairs_keys, plant_keys, answers_keys, question_keys, brake_keys, lower_keys};
+ghost use Rattle.eg_cal.specs.Keys.{content_of, number, version_keys, permit_keys, torque_keys, pairs_keys, plant_keys, answers_keys, question_keys, brake_keys, fall_keys, lower_keys};
 ghost use Rattle.eg_toml.specs.Refusals.{Checks};
 ghost use Rattle.eg_cal.specs.Contents.{version_of, number_of, questions_of};
 ghost use Rattle.eg_cal.specs.Checks.{first_fault, keys_fault};
-ghost use Rattle.eg_cal.specs.Calibration.{permit_of, weights_of, torque_weights_of, tolerances_of, pair_weights_of, plant_of, times_of, brake_of, parts_of};
+ghost use Rattle.eg_cal.specs.Calibration.{permit_of, weights_of, torque_weights_of, tolerances_of, pair_weights_of, plant_of, times_of, brake_of, fall_of, parts_of};
 
-use crate::document::{Document, has_brake};
+use crate::document::{Document, has_brake, has_fall};
 use crate::{CalFault, CalKey};
 use eg_answer::Questions;
 use eg_num::{Table2, Weights};
 use eg_plant::PlantData;
+use eg_torque::NO_RAMP;
 use std::marker::Model;
 
 /// The times of the answers, before it is known that they go together.
@@ -47,6 +48,7 @@ impl Model for AnswerTimes {
 #[derive(Drop)]
 pub(crate) struct Entries {
     pub(crate) permit: Table2,
+    pub(crate) fall: u16,
     pub(crate) threshold: u16,
     pub(crate) kt: u16,
     pub(crate) torque: Weights,
@@ -67,6 +69,7 @@ impl Model for Entries {
     ghost view = { λ e. record {
       rules = record {
         permit = e.permit;
+        fall = e.fall;
         kt = e.kt;
         threshold = e.threshold;
         tolerances = e.tolerances;
@@ -88,7 +91,7 @@ pub(crate) fn version_in(document: &Document) -> Result<u16, CalFault>
     ensures { let ms = table_view document.now.root in
         Checks (first_fault ms version_keys) (version_of ms) result }
 {
-    document.number(CalKey::Version, 1, 2)
+    document.number(CalKey::Version, 1, 3)
 }
 
 /// What stands under the keys below the version of a file of this version, or the fault of the first key that
@@ -98,7 +101,7 @@ pub(crate) fn entries_in(document: &Document, version: u16) -> Result<Entries, C
     ensures { let ms = table_view document.now.root in
         Checks (keys_fault ms (lower_keys version)) (parts_of ms) result }
 {
-    let (permit, threshold, brake) = permit_in(document, version)?;
+    let (permit, threshold, brake, fall) = permit_in(document, version)?;
     let (kt, torque) = torque_in(document)?;
     let (tolerances, pair) = pairs_in(document)?;
     let plant = plant_in(document, kt)?;
@@ -106,6 +109,7 @@ pub(crate) fn entries_in(document: &Document, version: u16) -> Result<Entries, C
     let questions = questions_in(document)?;
     Ok(Entries {
         permit,
+        fall,
         threshold,
         kt,
         torque,
@@ -118,33 +122,49 @@ pub(crate) fn entries_in(document: &Document, version: u16) -> Result<Entries, C
     })
 }
 
-/// The permit table, the threshold, and whether the brake counts.
+/// The permit table, the threshold, whether the brake counts, and by how much the permitted torque may fall.
 #[tactic(auto, unfolding(crate::specs::Checks::first_fault))]
-fn permit_in(document: &Document, version: u16) -> Result<(Table2, u16, bool), CalFault>
+fn permit_in(document: &Document, version: u16) -> Result<(Table2, u16, bool, u16), CalFault>
     requires { version ≡ version_of (table_view document.now.root) }
     ensures { let ms = table_view document.now.root in
         let fault = first_fault ms (permit_keys version) in
-        Checks fault (permit_of ms, number_of ms PermitThreshold, brake_of ms) result }
+        Checks fault (permit_of ms, number_of ms PermitThreshold, brake_of ms, fall_of ms) result }
 {
     let pedal = document.axis(CalKey::PermitPedal, 1000)?;
     let speed = document.axis(CalKey::PermitSpeed, 8000)?;
     let table = document.grid(CalKey::PermitTable, pedal, speed, 10_000)?;
     let threshold = document.number(CalKey::PermitThreshold, 0, 10_000)?;
-    let brake = brake_in(document, version)?;
-    Ok((table, threshold, brake))
+    let (brake, fall) = brake_in(document, version)?;
+    Ok((table, threshold, brake, fall))
 }
 
-/// Whether the brake counts: as a file of version 2 says; it doesn't in one of version 1.
+/// Whether the brake counts, and by how much the permitted torque may fall: as a file from version 2 on says;
+/// in one of version 1 the brake doesn't count, and there is no ramp.
 #[tactic(auto, unfolding(crate::specs::Checks::first_fault))]
-fn brake_in(document: &Document, version: u16) -> Result<bool, CalFault>
+fn brake_in(document: &Document, version: u16) -> Result<(bool, u16), CalFault>
     requires { version ≡ version_of (table_view document.now.root) }
     ensures { let ms = table_view document.now.root in
-        Checks (first_fault ms (brake_keys version)) (brake_of ms) result }
+        Checks (first_fault ms (brake_keys version)) (brake_of ms, fall_of ms) result }
 {
     if !has_brake(version) {
-        return Ok(false);
+        return Ok((false, NO_RAMP));
     }
-    document.truth(CalKey::PermitBrake)
+    let brake = document.truth(CalKey::PermitBrake)?;
+    let fall = fall_in(document, version)?;
+    Ok((brake, fall))
+}
+
+/// By how much the permitted torque may fall: as a file of version 3 says; in the others there is no ramp.
+#[tactic(auto, unfolding(crate::specs::Checks::first_fault))]
+fn fall_in(document: &Document, version: u16) -> Result<u16, CalFault>
+    requires { version ≡ version_of (table_view document.now.root) }
+    ensures { let ms = table_view document.now.root in
+        Checks (first_fault ms (fall_keys version)) (fall_of ms) result }
+{
+    if !has_fall(version) {
+        return Ok(NO_RAMP);
+    }
+    document.number(CalKey::PermitFall, 0, 10_000)
 }
 
 /// The weights under the three keys of a debouncer.

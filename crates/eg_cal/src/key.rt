@@ -8,7 +8,7 @@ use eg_toml::DocumentFault;
 /// which the keys are checked.
 #[derive(Clone, Copy, PartialEq, Eq)]
 pub enum CalKey {
-    /// `version`: the version of the format, 1 or 2.
+    /// `version`: the version of the format, 1 to 3.
     Version,
     /// `permit.pedal`: the permit table's points of the pedal, in per mille.
     PermitPedal,
@@ -18,8 +18,11 @@ pub enum CalKey {
     PermitTable,
     /// `permit.threshold`: how much an estimate may exceed the permitted torque, in tenths of Nm.
     PermitThreshold,
-    /// `permit.brake`: whether the brake counts. It is a key of version 2 alone.
+    /// `permit.brake`: whether the brake counts. It is a key of versions 2 and 3.
     PermitBrake,
+    /// `permit.fall`: by how much the permitted torque may fall in a tick, in tenths of Nm. It is a key of
+    /// version 3 alone.
+    PermitFall,
     /// `torque.kt`: the torque of a load of 1000, in tenths of Nm.
     TorqueKt,
     /// `torque.up`: what a bad feed adds in the debouncer of the torque.
@@ -116,6 +119,7 @@ impl CalKey {
             CalKey::PermitTable => "permit.table",
             CalKey::PermitThreshold => "permit.threshold",
             CalKey::PermitBrake => "permit.brake",
+            CalKey::PermitFall => "permit.fall",
             CalKey::TorqueKt => "torque.kt",
             CalKey::TorqueUp => "torque.up",
             CalKey::TorqueDown => "torque.down",
@@ -153,7 +157,8 @@ impl CalKey {
             | CalKey::PermitSpeed
             | CalKey::PermitTable
             | CalKey::PermitThreshold
-            | CalKey::PermitBrake => "permit",
+            | CalKey::PermitBrake
+            | CalKey::PermitFall => "permit",
             CalKey::TorqueKt | CalKey::TorqueUp | CalKey::TorqueDown | CalKey::TorqueLimit =>
                 "torque",
             CalKey::PairsPedal
@@ -186,6 +191,7 @@ impl CalKey {
             CalKey::PermitTable => "table",
             CalKey::PermitThreshold => "threshold",
             CalKey::PermitBrake => "brake",
+            CalKey::PermitFall => "fall",
             CalKey::TorqueKt => "kt",
             CalKey::TorqueUp | CalKey::PairsUp | CalKey::AnswersUp => "up",
             CalKey::TorqueDown | CalKey::PairsDown | CalKey::AnswersDown => "down",

@@ -84,6 +84,7 @@ fn put_together(entries: Entries) -> Result<Unanswered, CalFault>
     let tolerances = entries.tolerances;
     let rules = Rules {
         permit,
+        fall: entries.fall,
         kt: entries.kt,
         threshold: entries.threshold,
         tolerances,

@@ -15,10 +15,11 @@ some_limits = record {
   spacing = Some 80;
   stretch = 38;
   peak = 2300;
+  ramp = Some 0;
 }
 
 limits_known : limits_text some_limits
-    ≡ codes "reaction 34\nlapse none\nverdicts 3\nexcess 5\ntest 30\nspacing 80\nstretch 38\npeak 2300\n"
+    ≡ codes "reaction 34\nlapse none\nverdicts 3\nexcess 5\ntest 30\nspacing 80\nstretch 38\npeak 2300\nramp 0\n"
 unfolding digits number_or_none
 limits_known = refl
 

@@ -1,11 +1,12 @@
-// How long an excess can last by a calibration, and how great it can be.
+// How long an excess can last by a calibration, how great it can be, and how long the ramp is.
 ghost use Rattle.std.specs.Prelude.{◌≡◌, ◌≤◌, max, min};
 ghost use Rattle.std.specs.List.{fold};
-ghost use Rattle.eg_values.specs.Excess.{greatest_excess, greatest_torque, least_permitted, longest_stretch};
+ghost use Rattle.eg_values.specs.Excess.{greatest_excess, greatest_permitted, greatest_torque, least_permitted, longest_stretch, ramp_ticks};
 
-use eg_answer::{feeds_to_confirm, reaction};
+use eg_answer::{Rules, feeds_to_confirm, reaction};
 use eg_num::Table2;
 use eg_plant::PlantData;
+use eg_torque::NO_RAMP;
 use eg_values::Calibration;
 
 /// How many ticks in a row an excess lasts at the most, without a fault or under a listed one.
@@ -47,6 +48,31 @@ fn least_permitted(permit: &Table2) -> u16
 {
     let values = permit.values();
     least(&values[..permit.width()], values[0])
+}
+
+/// How many ticks the ramp takes from the table's greatest number to its least, rounded up: 0 without a ramp,
+/// and None where the ramp never comes down.
+#[tactic(auto, unfolding(eg_values::specs::Excess::ramp_ticks))]
+pub(crate) fn ramp_ticks(rules: &Rules) -> Option<u32>
+    ensures { result ≡ ramp_ticks rules.now }
+{
+    if rules.fall == NO_RAMP {
+        return Some(0);
+    }
+    if rules.fall == 0 {
+        return None;
+    }
+    let permit = rules.permit.table();
+    let height = greatest_permitted(permit).saturating_sub(least_permitted(permit));
+    Some(u32::from(height.div_ceil(rules.fall)))
+}
+
+/// The most torque that a permit table permits, in tenths of Nm.
+#[tactic(auto, unfolding(eg_values::specs::Excess::greatest_permitted))]
+fn greatest_permitted(permit: &Table2) -> u16
+    ensures { result ≡ greatest_permitted permit.now }
+{
+    greatest(permit.values())
 }
 
 /// The greatest of these numbers, or 0 where there is none.

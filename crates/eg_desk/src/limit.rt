@@ -1,9 +1,13 @@
 // What a calibration comes to.
+ghost use Rattle.std.specs.Prelude.{SomeIff};
+ghost use Rattle.eg_answer.specs.Times.{lapse_bound_of};
+ghost use Rattle.eg_values.specs.Excess.{BoundsLapses};
 ghost use Rattle.eg_desk.specs.Limits.{AreLimits};
 
-use crate::excess::{greatest_excess, longest_stretch};
+use crate::excess::{greatest_excess, longest_stretch, ramp_ticks};
 use eg_answer::{feeds_to_confirm, lapse_bound, miss_spacing, reaction};
 use eg_module::test_ticks;
+use eg_torque::NO_RAMP;
 use eg_values::Calibration;
 
 /// What a calibration comes to (docs/FORMATS.md, "The text of `limits`").
@@ -11,7 +15,7 @@ use eg_values::Calibration;
 pub struct Limits {
     /// The worst-case reaction, in ticks.
     pub reaction: u32,
-    /// The bound for lapses, in ticks, if there is one.
+    /// The bound for lapses, in ticks, if there is one; with a ramp there is none.
     pub lapse: Option<u32>,
     /// How many wrong verdicts in a row open path 2, from an empty counter.
     pub verdicts: u32,
@@ -28,6 +32,9 @@ pub struct Limits {
     /// How far the torque of an engine on the bench lies above what is permitted and the threshold together
     /// at the most, in tenths of Nm; 0 where no excess is possible.
     pub peak: u16,
+    /// How many ticks the ramp takes from the permit table's greatest number to its least, rounded up: 0
+    /// without a ramp, and None where the ramp never comes down.
+    pub ramp: Option<u32>,
 }
 
 /// What a calibration comes to (docs/CONCEPT.md, "Worst-case reaction", "Lapses" and "Why the unit reacts").
@@ -39,12 +46,25 @@ pub fn limits_of(calibration: &Calibration) -> Limits
     let times = calibration.times();
     Limits {
         reaction: reaction(times),
-        lapse: lapse_bound(torque, times),
+        lapse: lapse_of(calibration),
         verdicts: feeds_to_confirm(times.weights()),
         excess: feeds_to_confirm(torque),
         test: test_ticks(times),
         spacing: miss_spacing(times),
         stretch: longest_stretch(calibration),
         peak: greatest_excess(calibration),
+        ramp: ramp_ticks(calibration.rules()),
     }
+}
+
+/// The bound for lapses in ticks, if the calibration has one (docs/CONCEPT.md, "Lapses").
+fn lapse_of(calibration: &Calibration) -> Option<u32>
+    ensures { let cal = calibration.now in
+        SomeIff result (BoundsLapses cal) (lapse_bound_of cal.rules.torque cal.times) }
+{
+    let rules = calibration.rules();
+    if rules.fall != NO_RAMP {
+        return None;
+    }
+    lapse_bound(&rules.torque, calibration.times())
 }

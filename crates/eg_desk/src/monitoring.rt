@@ -1,22 +1,23 @@
 // Torque monitoring of the rows of a check file.
 ghost use Rattle.std.specs.Prelude.{◌≡◌};
 ghost use Rattle.eg_num.specs.Places.{IsFirst};
-ghost use Rattle.eg_desk.specs.Check.{is_row_excess, excesses};
+ghost use Rattle.eg_desk.specs.Check.{row_permits, excesses};
 
 use eg_answer::Rules;
 use eg_num::{Counter, Drive};
-use eg_torque::excess;
+use eg_torque::{excess, ramped};
 
-/// Whether the torque (tenths of Nm) is more than what the drive row permits and the threshold together.
-fn is_row_excess(rules: &Rules, drive: &Drive, torque: u16) -> bool
-    ensures { result ≡ is_row_excess rules.now (drive.now, torque) }
+/// The permitted torque of a row, in tenths of Nm (docs/CONCEPT.md, "Torque"), `before` being that of the row
+/// before it.
+fn row_permits(rules: &Rules, before: u16, drive: &Drive) -> u16
+    ensures { result ≡ row_permits rules.now before drive.now }
 {
     let speed = drive.speed();
-    let permitted = rules.permit.at(drive.pedal(), speed, speed, drive.raise());
-    excess(torque, permitted, rules.threshold)
+    let demand = rules.permit.at(drive.pedal(), speed, speed, drive.raise());
+    ramped(rules.fall, before, demand)
 }
 
-/// The first tick by which the excess of these rows is confirmed, each row being one tick.
+/// The first tick by which the excess of these rows is confirmed, each row being one tick of a drive span.
 pub(crate) fn first_confirmed(rules: &Rules, rows: &[(Drive, u16)]) -> Option<usize>
     ensures { IsFirst rules.now.torque (excesses rules.now rows.now) result }
 {
@@ -24,8 +25,10 @@ pub(crate) fn first_confirmed(rules: &Rules, rows: &[(Drive, u16)]) -> Option<us
     let limit = rules.torque.limit();
     prove!(limit >= 1);
     let mut counter = Counter::new();
+    let mut permitted = 0;
     for (tick, (drive, torque)) in rows.iter().enumerate() {
-        if counter.feed(&rules.torque, is_row_excess(rules, drive, *torque)) {
+        permitted = row_permits(rules, permitted, drive);
+        if counter.feed(&rules.torque, excess(*torque, permitted, rules.threshold)) {
             return Some(tick);
         }
     }

@@ -64,6 +64,7 @@ fn limits_text(alloc: Global, limits: &Limits) -> Result<String, NoMemory>
     let mut text = counts_text(alloc, limits)?;
     write!(text, "stretch {}\n", limits.stretch)?;
     write!(text, "peak {}\n", limits.peak)?;
+    push_line(&mut text, "ramp ", limits.ramp)?;
     Ok(text)
 }
 

@@ -3,6 +3,7 @@ use Rattle.std.proofs.Common.{◌≡◌, ℕ, ◌+◌, Bool, true, false, not, �
 use Rattle.std.specs.List.{list_any}
 use Rattle.std.proofs.lemmas.List.Elements.{All-head, All-tail}
 use Rattle.std.proofs.lemmas.Bool.{and_left, and_from, or_from, or_parts}
+use Rattle.eg_torque.specs.declared.ramp.TheConstants.{NO_RAMP}
 use Rattle.eg_values.specs.Calibration.{IsAccepted}
 use Rattle.eg_fault.specs.Effects.{Effects, no_effects}
 use Rattle.eg_fault.specs.declared.paths.TheConstants.{PATH_1, PATH_2}
@@ -81,7 +82,7 @@ abbrev NoExcess : Setting → Tick → List Tick → Type 0
 NoExcess s x h = full_excess s.cal.rules.kt s.cal.rules.threshold
     (row_of (length (moments_of s h)) (moment s x.effects x.entry (moments_of s h))) ≡ false
 
-module _ (s : Setting) (accepted : IsAccepted s.cal) (e : Entry) (h : List Tick)
+module _ (s : Setting) (accepted : IsAccepted s.cal) (no_ramp : s.cal.rules.fall ≡ NO_RAMP) (e : Entry) (h : List Tick)
     (proper : IsProper s (both_conduct no_effects (moments_of s h)) e) (loads : IsOneLoad e.shown)
     (none : NoExcess s (plain e) h) (spared : Spared s h) where
   abbrev past : List Moment
@@ -91,7 +92,7 @@ module _ (s : Setting) (accepted : IsAccepted s.cal) (e : Entry) (h : List Tick)
   now = moment s no_effects e past
 
   torque_good : torque_bit now.signals ≡ false
-  torque_good = torque_bit-is s e past proper loads spared.untouched.untripped spared.untouched.unlimited ∙ none
+  torque_good = torque_bit-is s e past proper loads spared.untouched.untripped spared.untouched.unlimited (inl no_ramp) ∙ none
 
   torque_unfound : now.found.torque ≡ false
   torque_unfound = (fields s no_effects e past).torque ∙ unfound_now s.cal.rules.torque torque_bit now.feeds now.signals past
@@ -129,16 +130,18 @@ no_excesses : (s : Setting) (x : Tick) (h : List Tick) → list_any (λ excess. 
     NoExcess s x h × (list_any (λ excess. excess) (full_excesses s h) ≡ false)
 no_excesses s x h none = or_parts _ _ (ap (list_any (λ excess. excess)) (sym (full_excesses-cons s x h)) ∙ none)
 
-spares : (s : Setting) → IsAccepted s.cal → IsLapse s.fault → (start : ℕ) (h : List Tick) → Follows s.fault start h →
-    AreProper s h → All (λ x. IsOneLoad x.entry.shown) h → list_any (λ excess. excess) (full_excesses s h) ≡ false → Spared s h
+spares : (s : Setting) → IsAccepted s.cal → s.cal.rules.fall ≡ NO_RAMP → IsLapse s.fault → (start : ℕ) (h : List Tick) →
+    Follows s.fault start h → AreProper s h → All (λ x. IsOneLoad x.entry.shown) h →
+    list_any (λ excess. excess) (full_excesses s h) ≡ false → Spared s h
 unfolding Follows AreProper
-spares s accepted lapse start [] follows proper loads none = spared_at_first s
-spares s accepted lapse start (x ∷ h) follows proper loads none =
+spares s accepted no_ramp lapse start [] follows proper loads none = spared_at_first s
+spares s accepted no_ramp lapse start (x ∷ h) follows proper loads none =
     let parts = no_excesses s x h none in
-    let before = spares s accepted lapse start h follows.1 proper.1 (All-tail (λ x. IsOneLoad x.entry.shown) x h loads) parts.1 in
+    let before = spares s accepted no_ramp lapse start h follows.1 proper.1
+    (All-tail (λ x. IsOneLoad x.entry.shown) x h loads) parts.1 in
     elim (lapse_tick s.fault lapse (start + length h)) [
       | inl quiet ↦ as_tick (λ y. Spared s (y ∷ h)) x no_effects (follows.0 ∙ quiet)
-          (spared_plain s accepted x.entry h
+          (spared_plain s accepted no_ramp x.entry h
           (to_tick (λ y. IsProper s (both_conduct y.effects (moments_of s h)) y.entry) x no_effects (follows.0 ∙ quiet) proper.0)
           (All-head (λ x. IsOneLoad x.entry.shown) x h loads)
           (to_tick (λ y. NoExcess s y h) x no_effects (follows.0 ∙ quiet) parts.0) before)
@@ -146,4 +149,5 @@ spares s accepted lapse start (x ∷ h) follows proper loads none =
     ]
 
 pub no_trip_comes : NoTripComes
-no_trip_comes s accepted lapse start h follows proper loads none = (spares s accepted lapse start h follows proper loads none).untouched.untripped
+no_trip_comes s accepted no_ramp lapse start h follows proper loads none =
+    (spares s accepted no_ramp lapse start h follows proper loads none).untouched.untripped

@@ -3,6 +3,7 @@ use Rattle.std.proofs.Common.{append_assoc, ◌≡◌, ℕ, suc, ◌+◌, ◌≤
 use Rattle.std.specs.List.{list_any}
 use Rattle.std.proofs.lemmas.List.Elements.{All-head, All-tail}
 use Rattle.std.proofs.lemmas.Bool.{true≢false, false_from_ne_true, or_from, or_parts}
+use Rattle.eg_torque.specs.declared.ramp.TheConstants.{NO_RAMP}
 use Rattle.eg_values.specs.Calibration.{IsAccepted}
 use Rattle.eg_plant.specs.PlantParts.{PlantParts}
 use Rattle.eg_record.specs.declared.row.Row.{Row}
@@ -114,14 +115,15 @@ module _ (s : Setting) (start : ℕ) (h : List Tick) (accepted : IsAccepted s.ca
       at : LastTick s start row before
       at = last_tick s start h follows later before row e
 
-  stay_available : AreProper s h → All (λ x. IsOneLoad x.entry.shown) h → StaysAvailable s.cal.rules.kt s.cal.rules.threshold (SpanRows s start h)
+  stay_available : AreProper s h → All (λ x. IsOneLoad x.entry.shown) h → StaysAvailable s.cal.rules (SpanRows s start h)
   stay_available proper loads = record { answered = answered_rows; conducts = conducts_rows; cut_by_trips = cut_rows; stays_on = stays_on }
     where
       bit : Row → Bool
       bit = full_excess s.cal.rules.kt s.cal.rules.threshold
 
-      untripped : All (λ row. bit row ≡ false) (SpanRows s start h) → tripped (moments_of s h) ≡ false
-      untripped none = no_trip_comes s accepted lapse.lapse start h follows proper loads
+      untripped : s.cal.rules.fall ≡ NO_RAMP → All (λ row. bit row ≡ false) (SpanRows s start h) →
+          tripped (moments_of s h) ≡ false
+      untripped no_ramp none = no_trip_comes s accepted no_ramp lapse.lapse start h follows proper loads
           (unfold full_excesses in subst (λ bits. list_any (λ b. b) bits ≡ false)
           (bits_after bit (full_unnumbered s.cal.rules.kt s.cal.rules.threshold) s start h) (none_set bit (SpanRows s start h) none))
 
@@ -135,11 +137,11 @@ module _ (s : Setting) (start : ℕ) (h : List Tick) (accepted : IsAccepted s.ca
           at_end : tripped (moments_of s ((newer ++ x ∷ []) ++ before)) ≡ false
           at_end = subst (λ g. tripped (moments_of s g) ≡ false) (whole ∙ sym (append_assoc newer (x ∷ []) before)) quiet
 
-      stays_on : All (λ row. bit row ≡ false) (SpanRows s start h) →
+      stays_on : s.cal.rules.fall ≡ NO_RAMP → All (λ row. bit row ≡ false) (SpanRows s start h) →
           All (λ row. row.on ≡ true) (SpanRows s start h) × (has_tripped (SpanRows s start h) ≡ false)
-      stays_on none = (
-        all_rows (λ row. row.on ≡ true) s start h (on_at_each (untripped none)),
-        tripped_rows s start h ∙ untripped none,
+      stays_on no_ramp none = (
+        all_rows (λ row. row.on ≡ true) s start h (on_at_each (untripped no_ramp none)),
+        tripped_rows s start h ∙ untripped no_ramp none,
       )
 
 -- ---- by the rows of a record ----

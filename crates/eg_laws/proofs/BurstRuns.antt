@@ -20,7 +20,7 @@ use Rattle.eg_model.proofs.LapseWeights.{rounded_up}
 use Rattle.eg_model.proofs.SharpCutLaw.{greatest-AllGood}
 use Rattle.eg_laws.proofs.BurstLaws.{bad_in-cons, so_many_can_be_bad}
 use Rattle.eg_laws.proofs.FewVerdicts.{never}
-use Rattle.eg_laws.proofs.ExcessTicks.{all_good, follows_none, true_excesses-cons, all_bits, all_plain, confirmed, all_go_on, all_words, proper_to, size, period_positive}
+use Rattle.eg_laws.proofs.ExcessTicks.{all_good, follows_none, true_excesses-cons, excess_level, driven_on, all_bits, all_plain, confirmed, all_go_on, all_words, proper_to, size, period_positive}
 use Rattle.eg_laws.proofs.LateExcess.{MayFollow, IsLate, loaded_may, reaction_long, size_whole, goes_on_after, words_after, follows_on, after_proper}
 
 -- ---- bits ----
@@ -201,7 +201,8 @@ module _ (cal : CalibrationParts) (accepted : IsAccepted cal) (can : CanExceed c
     whole_bits : (k : ℕ) → true_excesses s (whole k) ≡ replicate k true ++ (true ∷ bits)
     whole_bits zero = (all_bits s accepted can (true ∷ bits)).0
     whole_bits (suc k) = true_excesses-cons s (exceeding_after cal can.drive can.load) (whole k)
-        ∙ ap₂ (λ b l. b ∷ l) can.exceeds (whole_bits k)
+        ∙ ap₂ (λ b l. b ∷ l) (excess_level s can.drive (whole k) _
+        (driven_on s accepted can k (exceeding_after cal can.drive can.load) (true ∷ bits) refl) can.exceeds) (whole_bits k)
 
     long : 2 ≤ reaction_of cal.times
     long = reaction_long cal accepted can bits periods _ late

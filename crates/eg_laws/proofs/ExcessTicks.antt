@@ -1,13 +1,16 @@
 -- Ticks of excess and quiet ones, by bits: what is so of them in any setting.
 use Rattle.std.proofs.Common.{◌≡◌, ℕ, zero, suc, ◌+◌, ◌-◌, ◌*◌, ◌/◌, ◌≤◌, ◌<◌, Bool, true, false, not, List, ◌∷◌, ◌++◌, All, length, refl, sym, ap, ap₂, ◌∙◌, arith, length-append, min, replicate, subst, take, Some, None, []}
-use Rattle.std.specs.Prelude.{if◌then◌else◌}
+use Rattle.std.specs.Prelude.{if◌then◌else◌, ◌==◌, max}
 use Rattle.std.specs.List.{list_all}
 use Rattle.std.proofs.lemmas.Bool.{true≢false, and_from, le-ltb}
 use Rattle.std.proofs.lemmas.List.{length-replicate, length-map}
-use Rattle.std.proofs.lemmas.List.Elements.{All-nil, All-cons}
+use Rattle.std.proofs.lemmas.List.Elements.{All-nil, All-cons, All-head, All-tail, All-append, All-replicate}
 use Rattle.std.proofs.Math.Nat.{zero-mul}
 use Rattle.eg_num.specs.Arithmetic.{estimate}
+use Rattle.eg_num.specs.Drive.{DriveRow}
 use Rattle.eg_num.specs.Windows.{WeightParts, is_confirmed}
+use Rattle.eg_torque.specs.Ramp.{ramped}
+use Rattle.eg_torque.specs.declared.ramp.TheConstants.{NO_RAMP}
 use Rattle.eg_torque.specs.Excess.{is_excess}
 use Rattle.eg_answer.specs.Times.{feeds_to_confirm, reaction_of}
 use Rattle.eg_values.specs.Calibration.{IsAccepted}
@@ -18,7 +21,7 @@ use Rattle.eg_fault.specs.Effects.{Effects, no_effects}
 use Rattle.eg_record.specs.Excess.{true_excess, full_excess}
 use Rattle.eg_model.specs.History.{Setting, Tick, Moment}
 use Rattle.eg_model.specs.Paths.{both_conduct}
-use Rattle.eg_model.specs.Moments.{limit_at, moment, moment_in, moments_of}
+use Rattle.eg_model.specs.Moments.{demand_at, last_limit, limit_at, moment, moment_in, moments_of}
 use Rattle.eg_model.specs.Rows.{row_of, rows_of}
 use Rattle.eg_model.specs.Premises.{IsProper, AreProper, Follows, is_on_after, true_excesses, full_excesses}
 use Rattle.eg_model.specs.SharpCut.{ArePlain}
@@ -35,26 +38,26 @@ use Rattle.eg_laws.proofs.FewVerdicts.{too_few, quotient_short, quotient_positiv
 
 pub true_bit : (s : Setting) (x : Tick) (past : List Moment) (tick : ℕ) →
     true_excess s.cal.rules.threshold (row_of tick (moment s x.effects x.entry past))
-    ≡ is_excess x.entry.shown.torque (limit_at s.cal x.entry.drive) s.cal.rules.threshold
+    ≡ is_excess x.entry.shown.torque (limit_at s.cal x.entry.drive past) s.cal.rules.threshold
 unfolding true_excess row_of moment moment_in
 true_bit s x past tick = refl
 
 pub full_bit : (s : Setting) (x : Tick) (past : List Moment) (tick : ℕ) →
     full_excess s.cal.rules.kt s.cal.rules.threshold (row_of tick (moment s x.effects x.entry past))
-    ≡ is_excess (estimate s.cal.rules.kt x.entry.shown.load_1) (limit_at s.cal x.entry.drive) s.cal.rules.threshold
+    ≡ is_excess (estimate s.cal.rules.kt x.entry.shown.load_1) (limit_at s.cal x.entry.drive past) s.cal.rules.threshold
 full_bit s x past tick = moment-full_excess s x.effects x.entry past tick
     ∙ ap (λ limit. is_excess (estimate s.cal.rules.kt x.entry.shown.load_1) limit s.cal.rules.threshold)
     (fields s x.effects x.entry past).limit
 
 pub true_excesses-cons : (s : Setting) (x : Tick) (h : List Tick) →
     true_excesses s (x ∷ h)
-    ≡ is_excess x.entry.shown.torque (limit_at s.cal x.entry.drive) s.cal.rules.threshold ∷ true_excesses s h
+    ≡ is_excess x.entry.shown.torque (limit_at s.cal x.entry.drive (moments_of s h)) s.cal.rules.threshold ∷ true_excesses s h
 unfolding true_excesses moments_of rows_of
 true_excesses-cons s x h = ap (λ b. b ∷ true_excesses s h) (true_bit s x (moments_of s h) _)
 
 -- one tick more of excess
 pub more_exceed : (s : Setting) (x : Tick) (h : List Tick) (k m : ℕ) → m ≡ suc k →
-    is_excess x.entry.shown.torque (limit_at s.cal x.entry.drive) s.cal.rules.threshold ≡ true →
+    is_excess x.entry.shown.torque (limit_at s.cal x.entry.drive (moments_of s h)) s.cal.rules.threshold ≡ true →
     AllExceed s k h → AllExceed s m (x ∷ h)
 more_exceed s x h k m same now before = subst (λ n. AllExceed s n (x ∷ h)) (sym same)
     (subst (λ bits. list_all (λ b. b) (take (suc k) bits) ≡ true) (sym (true_excesses-cons s x h)) (and_from _ _ now before))
@@ -73,6 +76,44 @@ no_load kt = ap (λ n. min 65535 ((n + 999) / 1000)) (zero-mul kt)
 pub no_load_no_excess : (kt limit threshold : ℕ) → is_excess (estimate kt 0) limit threshold ≡ false
 no_load_no_excess kt limit threshold =
     ap (λ torque. is_excess torque limit threshold) (no_load kt) ∙ no_torque_no_excess limit threshold
+
+-- ---- over a constant drive the permitted torque is the demand, with any ramp ----
+
+-- each of these ticks has this drive row
+abbrev pub HasDrive : DriveRow → Tick → Type 0
+HasDrive drive x = x.entry.drive ≡ drive
+
+ramped-level : (fall before demand : ℕ) → before ≤ demand → ramped fall before demand ≡ demand
+unfolding ramped
+ramped-level fall before demand low = go (fall == NO_RAMP)
+  where
+    go : (none : Bool) → (if none then demand else max demand (before - fall)) ≡ demand
+    go true = refl
+    go false = omega (arith, low)
+
+last_level : (s : Setting) (drive : DriveRow) (h : List Tick) → All (HasDrive drive) h →
+    last_limit (moments_of s h) ≤ demand_at s.cal drive
+unfolding moments_of last_limit limit_at
+last_level s drive [] constant = omega arith
+last_level s drive (x ∷ h) constant =
+    let before = last_level s drive h (All-tail (HasDrive drive) x h constant) in
+    let same = (fields s x.effects x.entry (moments_of s h)).limit
+    ∙ ap (λ row. limit_at s.cal row (moments_of s h)) (All-head (HasDrive drive) x h constant)
+    ∙ ramped-level s.cal.rules.fall (last_limit (moments_of s h)) (demand_at s.cal drive) before in
+    omega (arith, same)
+
+pub level : (s : Setting) (drive : DriveRow) (h : List Tick) → All (HasDrive drive) h →
+    limit_at s.cal drive (moments_of s h) ≡ demand_at s.cal drive
+unfolding limit_at
+level s drive h constant = ramped-level s.cal.rules.fall (last_limit (moments_of s h)) (demand_at s.cal drive)
+    (last_level s drive h constant)
+
+-- so after such ticks there is an excess by it where there is one by the demand
+pub excess_level : (s : Setting) (drive : DriveRow) (h : List Tick) (torque : ℕ) → All (HasDrive drive) h →
+    is_excess torque (demand_at s.cal drive) s.cal.rules.threshold ≡ true →
+    is_excess torque (limit_at s.cal drive (moments_of s h)) s.cal.rules.threshold ≡ true
+excess_level s drive h torque constant is =
+    ap (λ limit. is_excess torque limit s.cal.rules.threshold) (level s drive h constant) ∙ is
 
 -- ---- ticks of a run under one fault ----
 
@@ -136,13 +177,29 @@ module _ (s : Setting) (accepted : IsAccepted s.cal) (can : CanExceed s.cal) whe
 
   -- ---- what is plain, and its excess ----
 
+  pub all_driven : (bits : List Bool) → All (HasDrive can.drive) (ticks bits)
+  all_driven [] = All-nil (HasDrive can.drive)
+  all_driven (true ∷ bits) = All-cons (HasDrive can.drive) excess_tick (ticks bits) refl (all_driven bits)
+  all_driven (false ∷ bits) = All-cons (HasDrive can.drive) calm_tick (ticks bits) refl (all_driven bits)
+
+  -- and any number of further ticks with the same drive row
+  pub driven_on : (n : ℕ) (y : Tick) (bits : List Bool) → HasDrive can.drive y →
+      All (HasDrive can.drive) (replicate n y ++ ticks bits)
+  driven_on n y bits same = All-append (HasDrive can.drive) (replicate n y) (ticks bits)
+      (All-replicate (HasDrive can.drive) n y same) (all_driven bits)
+
+  excess_now : (bits : List Bool) →
+      is_excess (estimate s.cal.rules.kt can.load) (limit_at s.cal can.drive (moments_of s (ticks bits)))
+      s.cal.rules.threshold ≡ true
+  excess_now bits = excess_level s can.drive (ticks bits) _ (all_driven bits) can.exceeds
+
   pub all_bits : (bits : List Bool) → (true_excesses s (ticks bits) ≡ bits) × (full_excesses s (ticks bits) ≡ bits)
   all_bits [] = unfold true_excesses full_excesses moments_of rows_of in (refl, refl)
   all_bits (true ∷ bits) =
       let rest = all_bits bits in (
-        true_excesses-cons s excess_tick (ticks bits) ∙ ap₂ (λ b others. b ∷ others) can.exceeds rest.0,
+        true_excesses-cons s excess_tick (ticks bits) ∙ ap₂ (λ b others. b ∷ others) (excess_now bits) rest.0,
         full_excesses-cons s excess_tick (ticks bits)
-            ∙ ap₂ (λ b others. b ∷ others) (full_bit s excess_tick _ _ ∙ can.exceeds) rest.1,
+            ∙ ap₂ (λ b others. b ∷ others) (full_bit s excess_tick _ _ ∙ excess_now bits) rest.1,
       )
   all_bits (false ∷ bits) =
       let rest = all_bits bits in (
@@ -153,7 +210,8 @@ module _ (s : Setting) (accepted : IsAccepted s.cal) (can : CanExceed s.cal) whe
 
   pub all_exceed : (j : ℕ) (before : List Bool) → AllExceed s j (ticks (replicate j true ++ before))
   all_exceed zero before = refl
-  all_exceed (suc j) before = more_exceed s excess_tick (ticks (replicate j true ++ before)) j (suc j) refl can.exceeds (all_exceed j before)
+  all_exceed (suc j) before = more_exceed s excess_tick (ticks (replicate j true ++ before)) j (suc j) refl
+      (excess_now (replicate j true ++ before)) (all_exceed j before)
 
   pub all_plain : (bits : List Bool) → ArePlain (ticks bits)
   unfolding ArePlain

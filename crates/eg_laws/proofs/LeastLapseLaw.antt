@@ -24,7 +24,7 @@ use Rattle.eg_model.proofs.ReactionLaw.{Unanswered}
 use Rattle.eg_model.proofs.SharpCutLaw.{Calm, calm_until, latch1_shut}
 use Rattle.eg_laws.proofs.FewVerdicts.{NoneOpens, HasFew, few_of_calm, few_on, still_shut}
 use Rattle.eg_model.proofs.LapseRuns.{AllOrNone, trip_out, AllExceed}
-use Rattle.eg_laws.proofs.ExcessTicks.{follows_plain, follows_alike, ticks_shut, many_positive, all_bits, all_plain, unconfirmed, loaded_proper, all_go_on, all_words, all_proper, size, size_over, period_positive, reaction_is, more_exceed, all_exceed}
+use Rattle.eg_laws.proofs.ExcessTicks.{follows_plain, follows_alike, ticks_shut, many_positive, all_bits, all_plain, unconfirmed, loaded_proper, all_go_on, all_words, all_proper, size, size_over, period_positive, reaction_is, more_exceed, excess_level, driven_on, all_exceed}
 
 -- ---- a tick that level 2 misses ----
 
@@ -158,7 +158,9 @@ module _ (cal : CalibrationParts) (accepted : IsAccepted cal) (fit : RunsFit cal
   exceeds : (n m : ℕ) → m ≡ n + (many - 1) → AllExceed s m (whole n)
   exceeds zero m is = subst (λ k. AllExceed s k base) (let e = is in omega arith) (all_exceed s accepted can (many - 1) (replicate first_quiet false))
   exceeds (suc n) m is =
-      more_exceed s miss (whole n) (n + (many - 1)) m (omega arith) can.exceeds (exceeds n (n + (many - 1)) refl)
+      more_exceed s miss (whole n) (n + (many - 1)) m (omega arith)
+      (excess_level s can.drive (whole n) _ (driven_on s accepted can n miss bits refl) can.exceeds)
+      (exceeds n (n + (many - 1)) refl)
 
   bound_is : least_lapse_bound cal ≡ reaction_of cal.times + many
   bound_is = unfold least_lapse_bound in omega arith

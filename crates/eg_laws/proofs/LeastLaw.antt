@@ -15,7 +15,7 @@ use Rattle.eg_values.specs.Calibration.{CalibrationParts, IsAccepted}
 use Rattle.eg_fault.specs.Faults.{effects_of, IsListed, IsValidClass, is_lapse}
 use Rattle.eg_fault.specs.declared.class.Class.TheVariants.{Path1Closed}
 use Rattle.eg_model.specs.History.{Setting, Entry, Tick}
-use Rattle.eg_model.specs.Moments.{effective_drive, limit_at, moments_of}
+use Rattle.eg_model.specs.Moments.{effective_drive, demand_at, limit_at, moments_of}
 use Rattle.eg_model.specs.Rows.{rows_of}
 use Rattle.eg_model.specs.Premises.{AreProper, is_on_after, true_excesses, IsExcessConfirmed}
 use Rattle.eg_model.specs.Reaction.{ReactsBy}
@@ -25,29 +25,30 @@ use Rattle.eg_model.proofs.Silence.{send_within}
 use Rattle.eg_model.proofs.LapseWeights.{rounded_up}
 use Rattle.eg_model.proofs.SpanRows.{proper-end}
 use Rattle.eg_model.proofs.SharpCutLaw.{AllGood}
+use Rattle.eg_laws.proofs.PeakLaws.{ramped-least}
 use Rattle.eg_laws.proofs.FewVerdicts.{never, quotient_short}
 use Rattle.eg_laws.proofs.LateExcess.{MayFollow, IsLate, reaction_long, goes_on_after, words_after, follows_on, on_after, after_proper}
 use Rattle.eg_laws.proofs.ExcessTicks.{true_excesses-cons, many_positive, all_bits, unconfirmed, confirmed, quiet_proper, size_over, period_positive, up_positive, limit_positive}
 
 -- ---- a condition without which no excess is confirmed ----
 
-more_exceeds : (torque most limit threshold : ℕ) → torque ≤ most → is_excess torque limit threshold ≡ true →
-    is_excess most limit threshold ≡ true
+more_exceeds : (torque most least limit threshold : ℕ) → torque ≤ most → least ≤ limit → is_excess torque limit threshold ≡ true →
+    is_excess most least threshold ≡ true
 unfolding is_excess
-more_exceeds torque most limit threshold le e =
-    let less = ltb-true (limit + threshold) torque e in lt-ltb (limit + threshold) most (omega arith)
+more_exceeds torque most least limit threshold le low e =
+    let less = ltb-true (limit + threshold) torque e in lt-ltb (least + threshold) most (omega arith)
 
--- what a drive row permits doesn't depend on whether the unit is reset
-without_reset : (cal : CalibrationParts) (drive : DriveRow) → limit_at cal (record drive { reset = false }) ≡ limit_at cal drive
-unfolding limit_at effective_drive drive_permits
+-- what a drive row demands doesn't depend on whether the unit is reset
+without_reset : (cal : CalibrationParts) (drive : DriveRow) → demand_at cal (record drive { reset = false }) ≡ demand_at cal drive
+unfolding demand_at effective_drive drive_permits
 without_reset cal drive = elim (cases_Bool (cal.brake && drive.brake)) [ inl on ↦ rw on refl | inr off ↦ rw off refl ]
 
 none_or_some : (s : Setting) (h : List Tick) → AreProper s h → All ShowsWord h → AllGood (true_excesses s h) ⊎ CanExceed s.cal
-unfolding AreProper
+unfolding AreProper limit_at
 none_or_some s [] proper words = inl (unfold true_excesses moments_of rows_of AllGood in tt)
 none_or_some s (x ∷ h) proper words = go _ refl (none_or_some s h proper.1 (All-tail ShowsWord x h words))
   where
-    go : (b : Bool) → is_excess x.entry.shown.torque (limit_at s.cal x.entry.drive) s.cal.rules.threshold ≡ b →
+    go : (b : Bool) → is_excess x.entry.shown.torque (limit_at s.cal x.entry.drive (moments_of s h)) s.cal.rules.threshold ≡ b →
         AllGood (true_excesses s h) ⊎ CanExceed s.cal → AllGood (true_excesses s (x ∷ h)) ⊎ CanExceed s.cal
     go true is others = inr (record {
       drive = record x.entry.drive { reset = false };
@@ -56,7 +57,8 @@ none_or_some s (x ∷ h) proper words = go _ refl (none_or_some s h proper.1 (Al
       load = x.entry.shown.load_1;
       is_word = (All-head ShowsWord x h words).0;
       exceeds = ap (λ limit. is_excess (estimate s.cal.rules.kt x.entry.shown.load_1) limit s.cal.rules.threshold)
-          (without_reset s.cal x.entry.drive) ∙ more_exceeds _ _ _ _ proper.0.engine.load_1 is;
+          (without_reset s.cal x.entry.drive) ∙ more_exceeds _ _ _ _ _ proper.0.engine.load_1
+          (ramped-least s.cal.rules.fall _ (demand_at s.cal x.entry.drive)) is;
     })
     go false is (inr can) = inr can
     go false is (inl good) = inl (subst AllGood (sym (true_excesses-cons s x h)) (unfold AllGood in (is, good)))

@@ -24,6 +24,7 @@ pub mod StretchRows
 pub mod BurstRows
 pub mod BurstRuns
 pub mod PeakLaws
+pub mod RampLaws
 pub mod LimitLaws
 pub mod WordLaws
 pub mod SeenExcess

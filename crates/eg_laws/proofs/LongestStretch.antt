@@ -18,7 +18,7 @@ use Rattle.eg_values.specs.Excess.{ticks_to_confirm, longest_stretch}
 use Rattle.eg_laws.specs.Stretches.{IsStretch, exceeding_after, faultless_setting, ExcessLasts, ExcessLastsUntilConfirmed, StretchIsLeast, StretchAtOnceIsLeast}
 use Rattle.eg_model.proofs.LapseRuns.{AllExceed}
 use Rattle.eg_laws.proofs.StretchLaws.{at_once_always}
-use Rattle.eg_laws.proofs.ExcessTicks.{follows_none, more_exceed, all_plain, all_exceed, all_go_on, all_words, proper_to, many_positive, size, size_over}
+use Rattle.eg_laws.proofs.ExcessTicks.{follows_none, more_exceed, excess_level, driven_on, all_plain, all_exceed, all_go_on, all_words, proper_to, many_positive, size, size_over}
 use Rattle.eg_laws.proofs.LateExcess.{MayFollow, loaded_may, reaction_long, size_whole, goes_on_after, words_after, follows_on, after_proper}
 use Rattle.eg_laws.proofs.LeastLaw.{room, last_is, listed, many_is, latest, latest_bits, latest_is}
 
@@ -66,7 +66,9 @@ module _ (cal : CalibrationParts) (accepted : IsAccepted cal) (can : CanExceed c
       let same : suc (many - 1) ≡ m = (let a = some in omega (arith, is, a)) in
       subst (λ k. AllExceed s k base) same (all_exceed s accepted can (suc (many - 1)) (replicate first_quiet false))
   exceeds (suc n) m is = more_exceed s (exceeding_after cal can.drive can.load) (after n ++ base) (n + many) m (omega (arith, is))
-      can.exceeds (exceeds n (n + many) refl)
+      (excess_level s can.drive (after n ++ base) _
+      (driven_on s accepted can n (exceeding_after cal can.drive can.load) (true ∷ bits) refl) can.exceeds)
+      (exceeds n (n + many) refl)
 
   long : 2 ≤ reaction_of cal.times
   long = reaction_long cal accepted can bits _ _ (latest cal accepted can)

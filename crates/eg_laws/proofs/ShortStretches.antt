@@ -4,6 +4,7 @@ use Rattle.std.proofs.Common.{◌≡◌, ◌≢◌, ℕ, zero, suc, ◌+◌, ◌
 use Rattle.std.specs.Prelude.{if◌then◌else◌, ◌==◌}
 use Rattle.std.proofs.lemmas.Bool.{cases_lt, true≢false, cases_Bool, ne_eqb, and_parts}
 use Rattle.eg_num.specs.Arithmetic.{quotient_up}
+use Rattle.eg_torque.specs.declared.ramp.TheConstants.{NO_RAMP}
 use Rattle.eg_answer.specs.Times.{TimeParts, feeds_to_confirm, reaction_of, periods_to_confirm, worth_of, rounds_to_confirm, lapse_periods}
 use Rattle.eg_answer.specs.declared.marks.AnswerMark.TheVariants.{Absent, Good}
 use Rattle.eg_values.specs.Calibration.{CalibrationParts, IsAccepted}
@@ -76,7 +77,7 @@ all_ran s (x ∷ h) regular (suc k) within off whole =
 
 -- ---- a stretch as long as the runs that confirm it ----
 
-module _ (s : Setting) (accepted : IsAccepted s.cal) (fit : RunsFit s.cal) where
+module _ (s : Setting) (accepted : IsAccepted s.cal) (no_ramp : s.cal.rules.fall ≡ NO_RAMP) (fit : RunsFit s.cal) where
   abbrev many : ℕ
   many = feeds_to_confirm s.cal.rules.torque
 
@@ -89,7 +90,8 @@ module _ (s : Setting) (accepted : IsAccepted s.cal) (fit : RunsFit s.cal) where
         (run_confirms s.cal.rules.torque many (fed_bits torque_bit (moments_of s h))
         (let f = accepted.torque.3 in omega arith)
         (unfold feeds_to_confirm in rounded_up s.cal.rules.torque.limit s.cal.rules.torque.up (let f = accepted.torque.0 in omega arith))
-        (subst (λ n. TrueRun n (fed_bits torque_bit (moments_of s h))) ran (runs_find s accepted h each proper many exceed u)))
+        (subst (λ n. TrueRun n (fed_bits torque_bit (moments_of s h))) ran
+        (runs_find s accepted no_ramp h each proper many exceed u)))
   ]
 
   -- so an answer there isn't good
@@ -169,12 +171,13 @@ bound_is : (cal : CalibrationParts) → least_lapse_bound cal ≡ reaction_of ca
 unfolding least_lapse_bound
 bound_is cal = omega arith
 
-too_long : (s : Setting) → IsAccepted s.cal → RunsFit s.cal → IsLapse s.fault → (start : ℕ) (h : List Tick) →
-    Follows s.fault start h → AreProper s h → (m : ℕ) → Exceeds s m h → least_lapse_bound s.cal ≤ m → ⊥
+too_long : (s : Setting) → IsAccepted s.cal → s.cal.rules.fall ≡ NO_RAMP → RunsFit s.cal → IsLapse s.fault →
+    (start : ℕ) (h : List Tick) → Follows s.fault start h → AreProper s h → (m : ℕ) → Exceeds s m h →
+    least_lapse_bound s.cal ≤ m → ⊥
 unfolding Follows AreProper true_excesses moments_of rows_of row_of true_excess is_on_after
-too_long s accepted fit lapse start [] follows proper m exceed long =
+too_long s accepted no_ramp fit lapse start [] follows proper m exceed long =
     absurd (let w = exceed.within in let some = runs_positive s accepted in let b = bound_is s.cal in omega arith)
-too_long s accepted fit lapse start (x ∷ h) follows proper m exceed long =
+too_long s accepted no_ramp fit lapse start (x ∷ h) follows proper m exceed long =
     off_no_excess s x (moments_of s h) proper.0 off (and_parts _ _ now).0
   where
     some : 0 < feeds_to_confirm s.cal.rules.torque
@@ -205,18 +208,21 @@ too_long s accepted fit lapse start (x ∷ h) follows proper m exceed long =
 
     off : (moment s x.effects x.entry (moments_of s h)).on ≡ false
     off = subst (λ l. (moment s x.effects x.entry (moments_of s l)).on ≡ false) (sym cut.whole)
-        (off_by_then s accepted fit x cut.more cut.rest
+        (off_by_then s accepted no_ramp fit x cut.more cut.rest
         (subst AllOrNone (sym follows.0) (lapse_all_or_none s.fault lapse (start + length h))) each
         (rw cut.whole at proper.1) some (let w = exceed.within in let c = cut.size in let b = bound in let l = long in let p = some in omega arith)
         (subst (AllExceed s (length cut.more + (feeds_to_confirm s.cal.rules.torque - 1))) cut.whole behind)
         (let w = exceed.within in let c = cut.size in let z = sizes in let b = bound in let l = long in let p = some in omega arith))
 
 pub stretches_are_shorter : StretchesAreShorter
-stretches_are_shorter cal accepted fit s is lapse start h follows proper m exceed = elim (cases_lt m (least_lapse_bound cal)) [
-  | inl less ↦ omega (arith, less)
-  | inr long ↦ absurd (too_long s (subst IsAccepted (sym is) accepted) (subst RunsFit (sym is) fit) lapse start h follows proper m exceed
-      (subst (λ c. least_lapse_bound c ≤ m) (sym is) long))
-]
+stretches_are_shorter cal accepted no_ramp fit s is lapse start h follows proper m exceed =
+    elim (cases_lt m (least_lapse_bound cal)) [
+      | inl less ↦ omega (arith, less)
+      | inr long ↦ absurd (too_long s (subst IsAccepted (sym is) accepted)
+          (subst (λ (c : CalibrationParts). c.rules.fall ≡ NO_RAMP) (sym is) no_ramp) (subst RunsFit (sym is) fit)
+          lapse start h follows proper m exceed
+          (subst (λ c. least_lapse_bound c ≤ m) (sym is) long))
+    ]
 
 -- ---- where the runs that confirm come to an end with a send tick ----
 
@@ -258,8 +264,12 @@ whole_periods cal accepted few fit = long (feeds_to_confirm cal.times.weights) c
         omega (arith, same, least, inside, few)
 
 pub none_stands_so_long : NoneStandsSoLong
-none_stands_so_long cal accepted few s is lapse start h follows proper m exceed =
-    omega (arith, stretches_are_shorter cal accepted fit s is lapse start h follows proper m exceed, whole_periods cal accepted few fit)
+none_stands_so_long cal accepted no_ramp few s is lapse start h follows proper m exceed =
+    omega (
+      arith,
+      stretches_are_shorter cal accepted no_ramp fit s is lapse start h follows proper m exceed,
+      whole_periods cal accepted few fit,
+    )
   where
     fit : RunsFit cal
     fit = let inside = send_within cal.times accepted.times in omega (arith, inside, few)

@@ -1,9 +1,11 @@
 -- The rows of a record show its run.
-use Rattle.std.proofs.Common.{◌≡◌, ◌∙◌, refl, sym, ap, ap₂, subst, ℕ, zero, suc, ◌≤◌, ◌==◌, Bool, true, false, not, ◌&&◌, List, [], ◌∷◌, All, map, reverse, take, length, slice_index_or, Option, if◌then◌else◌, arith}
+use Rattle.std.proofs.Common.{◌≡◌, ◌∙◌, refl, sym, ap, ap₂, subst, ℕ, zero, suc, ◌≤◌, ◌==◌, Bool, true, false, not, ◌&&◌, List, [], ◌∷◌, All, map, reverse, take, length, slice_index_or, ◌||◌, Option, if◌then◌else◌, arith}
 use Rattle.std.proofs.Math.Seq.{take-suc, take-length}
-use Rattle.std.proofs.lemmas.Bool.{false≢true, or_right, and_right, false_from_ne_true}
+use Rattle.std.proofs.lemmas.Bool.{false≢true, ne_eqb, or_right, and_right, false_from_ne_true}
 use Rattle.std.proofs.lemmas.List.{reverse-append}
 use Rattle.std.proofs.lemmas.List.Elements.{All-nil, All-cons}
+use Rattle.eg_num.specs.Drive.{DriveRow}
+use Rattle.eg_torque.specs.Ramp.{ramped}
 use Rattle.eg_fault.specs.declared.class.Class.{Class}
 use Rattle.eg_fault.specs.declared.class.Class.TheVariants.{Path1Closed, Path2Closed, PathOpen}
 use Rattle.eg_fault.specs.declared.class.Fault.{Fault}
@@ -15,14 +17,14 @@ use Rattle.eg_record.specs.declared.row.Row.{Row}
 use Rattle.eg_word.specs.World.{World, new_world}
 use Rattle.eg_model.specs.History.{Setting, Entry, drives, Moment}
 use Rattle.eg_model.specs.Level1.{last_world}
-use Rattle.eg_model.specs.Moments.{limit_at, moment_in}
+use Rattle.eg_model.specs.Moments.{demand_at, last_limit, limit_at, moment_in}
 use Rattle.eg_model.specs.Paths.{latch1, latch2, path1_at, path2_at, both_conduct}
-use Rattle.eg_model.specs.Spans.{kind_at, before_at, moment_at, next_after, moments, next}
+use Rattle.eg_model.specs.Spans.{span_so_far, has_passed, kind_at, before_at, moment_at, next_after, moments, next}
 use Rattle.eg_model.specs.Premises.{IsProperRun}
 use Rattle.eg_model.specs.Engines.{BenchEngine, KeepsBenchLaws}
 use Rattle.eg_model.specs.Bench.{Run, no_drive, stepped, engine_after, shown_at, drive_at, entry_at, moments_to, entries_to}
 use Rattle.eg_model.specs.Rows.{row_of, rows_of, record_rows}
-use Rattle.eg_laws.specs.Showing.{commands_at, engine_by, ShowEngine, RecordsShowRuns}
+use Rattle.eg_laws.specs.Showing.{commands_at, engine_by, limit_before, ArePermitted, ShowEngine, RecordsShowRuns}
 use Rattle.eg_model.proofs.SpanLemmas.{commands}
 use Rattle.eg_model.proofs.RecordTicks.{length-moments_to, records_are_histories}
 use Rattle.eg_model.proofs.RecordLaws.{proper_under, each_row}
@@ -31,15 +33,33 @@ use Rattle.eg_plant.specs.PlantParts.{PlantParts}
 
 -- ---- over the moments of any run ----
 
-abbrev Permitted : Setting → Row → Type 0
-Permitted s row = row.limit ≡ limit_at s.cal row.drive
-
 abbrev HasNoTorque : Row → Type 0
 HasNoTorque row = row.on ≡ false → row.torque ≡ 0
 
-permitted : (s : Setting) (h : List Entry) → All (Permitted s) (rows_of (moments s h))
-unfolding row_of next_after moment_at moment_in
-permitted s = each_row (Permitted s) s (λ e h. refl)
+-- the permitted torque before a tick stands in the row before it, and is 0 at the first tick of a span
+limit_was : (row : Row) (drive : DriveRow) (past : List Moment) → row.fresh ≡ (length (before_at drive past) == 0) →
+    last_limit (before_at drive past) ≡ limit_before row (rows_of past)
+unfolding before_at span_so_far last_limit limit_before rows_of row_of
+limit_was row drive [] fresh = go (drive.reset || has_passed [])
+  where
+    go : (begins : Bool) → last_limit (if begins then [] else []) ≡ 0
+    go true = refl
+    go false = refl
+limit_was row drive (m ∷ past) fresh = go (drive.reset || has_passed (m ∷ past)) fresh
+  where
+    go : (begins : Bool) → row.fresh ≡ (length (if begins then [] else span_so_far (m ∷ past)) == 0) →
+        last_limit (if begins then [] else span_so_far (m ∷ past)) ≡ (if row.fresh then 0 else m.limit)
+    go true is = rw is refl
+    go false is = rw (is ∙ ne_eqb (length (span_so_far (m ∷ past))) 0 (λ f. omega arith)) refl
+
+pub permitted : (s : Setting) (h : List Entry) → ArePermitted s.cal (rows_of (moments s h))
+unfolding moments rows_of row_of next_after moment_at moment_in limit_at ArePermitted
+permitted s [] = tt
+permitted s (e ∷ h) = (
+  ap (λ before. ramped s.cal.rules.fall before (demand_at s.cal e.drive))
+      (limit_was (row_of (length (moments s h)) (next_after s e (moments s h))) e.drive (moments s h) refl),
+  permitted s h,
+)
 
 no_torque : (s : Setting) (h : List Entry) → IsProperRun s h → All HasNoTorque (rows_of (moments s h))
 unfolding moments rows_of row_of next next_after moment_at moment_in IsProperRun
@@ -163,6 +183,11 @@ module _ {E : Type 0} (b : BenchEngine E) where
   unfolding record_rows
   shows_engine r = show_engine r (length r.drive)
 
+  pub permitted_rows : (r : Run) → ArePermitted r.setting.cal (record_rows b r)
+  unfolding record_rows
+  permitted_rows r = subst (λ past. ArePermitted r.setting.cal (rows_of past)) (sym (records_are_histories b r (length r.drive)))
+      (permitted r.setting (entries_to b r (length r.drive)))
+
   -- what holds of the rows of every list of entries holds of those of a record
   of_entries : (P : Row → Type 0) (r : Run) → All P (rows_of (moments r.setting (entries_to b r (length r.drive)))) → All P (record_rows b r)
   unfolding record_rows
@@ -173,7 +198,7 @@ module _ {E : Type 0} {b : BenchEngine E} {Keeps : PlantParts → E → Type 0} 
   records_show_runs r run valid = record {
     numbered = are_rows b r;
     driven = driven b r;
-    permitted = of_entries b (Permitted r.setting) r (permitted r.setting (entries_to b r (length r.drive)));
+    permitted = permitted_rows b r;
     no_torque = of_entries b HasNoTorque r (no_torque r.setting (entries_to b r (length r.drive)) (proper_under keeps r run valid (length r.drive)));
     engine = shows_engine b r;
     closed1 = of_entries b (Forced1 true r.setting) r (forced1 true r.setting (entries_to b r (length r.drive)));

@@ -2,6 +2,8 @@
 use Rattle.std.proofs.Common.{◌≡◌, ◌∙◌, ℕ, ◌+◌, ◌-◌, Bool, true, false, ◌&&◌, ◌||◌, ◌==◌, nat_le, List, [], ◌∷◌, ◌++◌, map, replicate, reverse, Some, refl, sym}
 use Rattle.std.proofs.lemmas.Bool.{and_parts, leb-true, eqb-true, true≢false}
 use Rattle.eg_num.specs.Arithmetic.{estimate}
+use Rattle.eg_answer.specs.Answers as answers
+use Rattle.eg_answer.specs.Formulas as formulas
 use Rattle.eg_answer.specs.Times.{feeds_to_confirm, reaction_of, periods_to_confirm}
 use Rattle.eg_values.specs.Calibration.{CalibrationParts, IsAccepted}
 use Rattle.eg_values.specs.Reference.{reference_rules, reference_parts}
@@ -18,7 +20,7 @@ use Rattle.eg_laws.specs.LeastLapse.{least_lapse_bound, lapse_onset}
 use Rattle.eg_values.specs.Excess.{ticks_to_confirm, longest_stretch}
 use Rattle.eg_laws.specs.Stretches.{faultless_setting}
 use Rattle.eg_laws.specs.Bursts.{most_bad, densest, hasty}
-use Rattle.eg_laws.specs.Examples.{latest_cut, longest_excess, longest_closed, StaysOn, Shows, high_pedal, low_loads, low_speeds, braked_parts, unseen_brake, left_out, disturbed_between, both_closed, closed_and_wild, missed_last, cut_late}
+use Rattle.eg_laws.specs.Examples.{latest_cut, longest_excess, longest_closed, StaysOn, Shows, high_pedal, low_loads, low_speeds, braked_parts, unseen_brake, left_out, disturbed_between, both_closed, closed_and_wild, missed_last, cut_late, ramped_parts, disturbed_once}
 
 -- ---- path 1 is closed right after an excess that is confirmed at the tick after a send tick ----
 
@@ -162,16 +164,37 @@ pub closed_and_wild_stays : StaysOn reference_parts closed_and_wild
 unfolding whole_model proper_by
 closed_and_wild_stays = stays reference_parts closed_and_wild refl refl refl
 
-pub missed_last_shows : Shows missed_last 14 (replicate 51 true)
+pub missed_last_shows : Shows reference_parts missed_last 14 (replicate 51 true)
 unfolding whole_model proper_by
 missed_last_shows = record { proper = proper reference_parts missed_last (replicate 51 true) refl refl; confirms = refl; on = refl }
 
-pub cut_late_shows : Shows cut_late 15 (replicate 50 true ++ false ∷ [])
+pub cut_late_shows : Shows reference_parts cut_late 15 (replicate 50 true ++ false ∷ [])
 unfolding whole_model proper_by
 cut_late_shows = record { proper = proper reference_parts cut_late (false ∷ replicate 50 true) refl refl; confirms = refl; on = refl }
 
+pub disturbed_once_shows : Shows ramped_parts disturbed_once 15 (replicate 51 true)
+unfolding whole_model proper_by
+disturbed_once_shows =
+    record { proper = proper ramped_parts disturbed_once (replicate 51 true) refl refl; confirms = refl; on = refl }
+
 pub braked_accepted : IsAccepted reference_parts → IsAccepted braked_parts
 braked_accepted a = record {
+  grid = a.grid;
+  permit = a.permit;
+  pair = a.pair;
+  torque = a.torque;
+  plant = a.plant;
+  charge = a.charge;
+  times = a.times;
+  answers = a.answers;
+  at_most_64 = a.at_most_64;
+  together = record { one_kt = a.together.one_kt; two_questions = a.together.two_questions; answered = a.together.answered };
+  words = record { seeds = a.words.seeds; values = a.words.values };
+}
+
+pub ramped_accepted : IsAccepted reference_parts → IsAccepted ramped_parts
+unfolding answers.expected_of answers.results_of answers.permitted_result answers.estimate_result answers.excess_result answers.pairs_result formulas.permitted_torque formulas.estimated_torque formulas.excess_number formulas.disagreeing_pairs
+ramped_accepted a = record {
   grid = a.grid;
   permit = a.permit;
   pair = a.pair;

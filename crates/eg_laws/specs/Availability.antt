@@ -7,7 +7,9 @@
 use Rattle.std.specs.Prelude.{◌≡◌, ◌⊎◌, ℕ, ◌+◌, ◌≤◌, ◌<◌, Bool, true, false, not, List, [], ◌∷◌, ◌++◌, All, length, Option, Some}
 use Rattle.std.specs.List.{list_any}
 use Rattle.eg_num.specs.declared.watches.Watches.{Watches}
+use Rattle.eg_torque.specs.declared.ramp.TheConstants.{NO_RAMP}
 use Rattle.eg_answer.specs.Times.{HasMissSpacing, miss_spacing_of}
+use Rattle.eg_answer.specs.declared.rules.Rules.{Rules}
 use Rattle.eg_values.specs.Calibration.{IsAccepted}
 use Rattle.eg_fault.specs.Faults.{effects, IsNoneOrValid}
 use Rattle.eg_fault.specs.declared.class.Class.TheVariants.{Lapse}
@@ -69,11 +71,13 @@ TripsAloneCut =
     IsSpacedLapse s start (start + length h) → Follows s.fault start (x ∷ h) →
     is_on_after s h x ≡ not (tripped (moments_of s h))
 
--- and under any lapse no trip comes where the full-efficiency excess comes at no tick, and the engine shows
--- one load twice at each
+-- And under any lapse no trip comes where there is no ramp, the full-efficiency excess comes at no tick,
+-- and the engine shows one load twice at each. (With a ramp level 2 may miss the tick from which permitted
+-- torque comes down, and then its own is lower: `a_miss_cuts_on_the_ramp` of `eg_runs`.)
 abbrev pub NoTripComes : Type 0
 NoTripComes =
-    (s : Setting) → IsAccepted s.cal → IsLapse s.fault → (start : ℕ) (h : List Tick) →
+    (s : Setting) → IsAccepted s.cal → s.cal.rules.fall ≡ NO_RAMP → IsLapse s.fault →
+    (start : ℕ) (h : List Tick) →
     Follows s.fault start h → AreProper s h → All (λ x. IsOneLoad x.entry.shown) h →
     list_any (λ excess. excess) (full_excesses s h) ≡ false → tripped (moments_of s h) ≡ false
 
@@ -87,8 +91,8 @@ trips found = some_trips found.mirror found.plate found.load found.speed found.t
 unfoldable pub has_tripped : List Row → Bool
 has_tripped rows = list_any (λ row. trips row.found) rows
 
--- What stays on under such a lapse, by the rows of a drive span.
-pub record StaysAvailable (kt threshold : ℕ) (rows : List Row) : Type 0 where
+-- What stays on under such a lapse by these rules, by the rows of a drive span.
+pub record StaysAvailable (rules : Rules) (rows : List Row) : Type 0 where
   -- as long as no trip has come, wrong answers aren't found, and path 2 conducts
   pub answered : (later before : List Row) (row : Row) → rows ≡ later ++ row ∷ before →
       has_tripped (row ∷ before) ≡ false → row.found.answers ≡ false
@@ -97,15 +101,15 @@ pub record StaysAvailable (kt threshold : ℕ) (rows : List Row) : Type 0 where
   -- the stages are on at each row exactly if no trip came at an earlier one
   pub cut_by_trips : (later before : List Row) (row : Row) → rows ≡ later ++ row ∷ before →
       row.on ≡ not (has_tripped before)
-  -- and where the full-efficiency excess comes at no row, the stages are on at each, and no trip comes
-  pub stays_on : All (λ row. full_excess kt threshold row ≡ false) rows →
+  -- and without a ramp, where the full-efficiency excess comes at no row, the stages are on at each, and
+  -- no trip comes
+  pub stays_on : rules.fall ≡ NO_RAMP → All (λ row. full_excess rules.kt rules.threshold row ≡ false) rows →
       All (λ row. row.on ≡ true) rows × (has_tripped rows ≡ false)
 
 -- this is so if the misses at the ticks of these rows are spaced
 abbrev pub AvailableIfSpaced : Setting → (start : ℕ) → List Row → Type 0
 AvailableIfSpaced s start rows =
-    IsSpacedLapse s start (start + length rows) →
-    StaysAvailable s.cal.rules.kt s.cal.rules.threshold rows
+    IsSpacedLapse s start (start + length rows) → StaysAvailable s.cal.rules rows
 
 -- ---- of every record ----
 

@@ -4,7 +4,7 @@ use Rattle.std.specs.List.{flat_map}
 use Rattle.eg_num.specs.Arithmetic.{estimate}
 use Rattle.eg_num.specs.Drive.{DriveRow, driven}
 use Rattle.eg_sensor.specs.declared.tracks.TheConstants.{PEDAL_1, PEDAL_2, LOAD_1, LOAD_2, SPEED_1, SPEED_2, BRAKE_1, BRAKE_2}
-use Rattle.eg_answer.specs.declared.modules.TheConstants.{EXCESS, DEBOUNCE}
+use Rattle.eg_answer.specs.declared.modules.TheConstants.{PERMITTED, EXCESS, DEBOUNCE}
 use Rattle.eg_values.specs.Calibration.{CalibrationParts}
 use Rattle.eg_values.specs.Reference.{reference_rules, reference_parts}
 use Rattle.eg_fault.specs.Effects.{Effects, no_effects}
@@ -139,10 +139,25 @@ cut_late =
     ++ replicate 5 (excess_under closed_and_early)
     ++ replicate 11 (quiet closed_and_early at_rest)
 
--- By the reference calibration what comes in at these ticks is proper; they confirm the excess at tick
--- `confirmed`, and never before; and the stages are on as told, in the order of time.
-pub record Shows (h : List Tick) (confirmed : ℕ) (stages : List Bool) : Type 0 where
-  pub proper : AreProper (faultless_setting reference_parts) h
-  pub confirms : first_confirmed reference_rules.torque reference_rules.threshold
-      (rows_of (moments_of (faultless_setting reference_parts) h)) ≡ Some confirmed
-  pub on : map (λ m. m.on) (reverse (moments_of (faultless_setting reference_parts) h)) ≡ stages
+-- the reference calibration with a ramp: permitted torque falls by at most 5.0 Nm in a tick
+abbrev pub ramped_parts : CalibrationParts
+ramped_parts = record reference_parts { rules = record reference_rules { fall = 50 } }
+
+-- level 2's permitted torque is disturbed: its highest bit is the other one
+abbrev pub disturbed_permit : Effects
+disturbed_permit = record no_effects { disturbance = λ i. if i == PERMITTED then 0x8000 else 0 }
+
+-- It is so at one quiet tick, the eleventh, and nothing is out of order at the others: 10 quiet ticks
+-- before it, and 40 of excess after it.
+abbrev pub disturbed_once : List Tick
+disturbed_once =
+    replicate 40 (excess_under no_effects)
+    ++ (quiet disturbed_permit at_rest ∷ replicate 10 (quiet no_effects at_rest))
+
+-- By this calibration what comes in at these ticks is proper; they confirm the excess at tick `confirmed`,
+-- and never before; and the stages are on as told, in the order of time.
+pub record Shows (cal : CalibrationParts) (h : List Tick) (confirmed : ℕ) (stages : List Bool) : Type 0 where
+  pub proper : AreProper (faultless_setting cal) h
+  pub confirms : first_confirmed cal.rules.torque cal.rules.threshold
+      (rows_of (moments_of (faultless_setting cal) h)) ≡ Some confirmed
+  pub on : map (λ m. m.on) (reverse (moments_of (faultless_setting cal) h)) ≡ stages

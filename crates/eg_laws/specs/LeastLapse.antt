@@ -1,9 +1,10 @@
 -- Outside the headline. The least bound for stretches of excess under lapses, in ticks: R + D, where D runs
 -- of level 2 confirm an excess and D is at most a period. (The bound of `Lapses` in `eg_model` is greater,
 -- and holds of more calibrations.)
-use Rattle.std.specs.Prelude.{ℕ, ◌+◌, ◌-◌, ◌*◌, ◌≤◌, true, false, List, [], ◌++◌, ◌∷◌, All, replicate, Some}
+use Rattle.std.specs.Prelude.{◌≡◌, ℕ, ◌+◌, ◌-◌, ◌*◌, ◌≤◌, true, false, List, [], ◌++◌, ◌∷◌, All, replicate, Some}
 use Rattle.eg_num.specs.Arithmetic.{estimate}
 use Rattle.eg_num.specs.Drive.{DriveRow}
+use Rattle.eg_torque.specs.declared.ramp.TheConstants.{NO_RAMP}
 use Rattle.eg_answer.specs.Times.{feeds_to_confirm, reaction_of, lapse_periods}
 use Rattle.eg_values.specs.Calibration.{CalibrationParts, IsAccepted}
 use Rattle.eg_fault.specs.Faults.{effects_of, IsNoneOrValid}
@@ -22,18 +23,20 @@ RunsFit cal = feeds_to_confirm cal.rules.torque ≤ cal.times.period
 unfoldable pub least_lapse_bound : CalibrationParts → ℕ
 least_lapse_bound cal = reaction_of cal.times + feeds_to_confirm cal.rules.torque
 
--- Where these runs fit into a period, each stretch of true excess is shorter than this number. For no answer
--- is good once D ticks of the stretch have passed: level 2 would have run at all of them, and found the
--- excess.
+-- Where there is no ramp, and these runs fit into a period, each stretch of true excess is shorter than
+-- this number. For no answer is good once D ticks of the stretch have passed: level 2 would have run at
+-- all of them, and found the excess.
 abbrev pub StretchesAreShorter : Type 0
 StretchesAreShorter =
-    (cal : CalibrationParts) → IsAccepted cal → RunsFit cal → StretchesStayBelow cal (least_lapse_bound cal)
+    (cal : CalibrationParts) → IsAccepted cal → cal.rules.fall ≡ NO_RAMP → RunsFit cal →
+    StretchesStayBelow cal (least_lapse_bound cal)
 
--- Where these runs are at most as many as the ticks of a period up to its send tick, no excess stands for the
--- whole periods of `CutsStandingExcess` (`eg_model`), so that that law says nothing there.
+-- Where there is no ramp, and these runs are at most as many as the ticks of a period up to its send tick,
+-- no excess stands for the whole periods of `CutsStandingExcess` (`eg_model`), so that that law says
+-- nothing there.
 abbrev pub NoneStandsSoLong : Type 0
 NoneStandsSoLong =
-    (cal : CalibrationParts) → IsAccepted cal →
+    (cal : CalibrationParts) → IsAccepted cal → cal.rules.fall ≡ NO_RAMP →
     feeds_to_confirm cal.rules.torque ≤ cal.times.send + 1 →
     StretchesStayBelow cal (lapse_periods cal.rules.torque cal.times * cal.times.period)
 

@@ -13,7 +13,7 @@ use Rattle.eg_fault.specs.Effects.{Effects, no_effects}
 use Rattle.eg_fault.specs.Faults.{effects_of, IsListed}
 use Rattle.eg_fault.specs.declared.class.Class.TheVariants.{Path1Closed}
 use Rattle.eg_model.specs.History.{Setting, Entry, Tick}
-use Rattle.eg_model.specs.Moments.{limit_at}
+use Rattle.eg_model.specs.Moments.{demand_at}
 use Rattle.eg_model.specs.Premises.{AreProper, Follows, is_on_after, true_excesses, IsExcessConfirmed}
 use Rattle.eg_model.specs.Reaction.{ReactsBy}
 
@@ -27,7 +27,7 @@ pub record CanExceed (cal : CalibrationParts) : Type 0 where
   pub goes_on : drive.reset ≡ false
   pub load : ℕ
   pub is_word : load < 2 ^ 16
-  pub exceeds : is_excess (estimate cal.rules.kt load) (limit_at cal drive) cal.rules.threshold ≡ true
+  pub exceeds : is_excess (estimate cal.rules.kt load) (demand_at cal drive) cal.rules.threshold ≡ true
 
 -- what the engine tells on each track of the load is a word
 abbrev pub ShowsWord : Tick → Type 0

@@ -7,6 +7,7 @@ pub mod Stretches
 pub mod Limits
 pub mod InWords
 pub mod Bursts
+pub mod Ramps
 pub mod FaultyBursts
 pub mod Seeing
 pub mod Paths

@@ -3,13 +3,15 @@
 -- newest first.
 use Rattle.std.specs.Prelude.{◌≡◌, ℕ, true, false, List, [], ◌∷◌, All, map, reverse, if◌then◌else◌}
 use Rattle.eg_num.specs.Drive.{DriveRow}
+use Rattle.eg_torque.specs.Ramp.{ramped}
 use Rattle.eg_plant.specs.Engine.{Shown}
+use Rattle.eg_values.specs.Calibration.{CalibrationParts}
 use Rattle.eg_fault.specs.Faults.{effects, IsNoneOrValid}
 use Rattle.eg_fault.specs.declared.paths.TheConstants.{PATH_1, PATH_2}
 use Rattle.eg_record.specs.declared.row.Row.{Row}
 use Rattle.eg_record.specs.Rows.{AreRows}
 use Rattle.eg_model.specs.History.{Setting}
-use Rattle.eg_model.specs.Moments.{limit_at}
+use Rattle.eg_model.specs.Moments.{demand_at}
 use Rattle.eg_model.specs.Engines.{BenchEngine}
 use Rattle.eg_model.specs.Bench.{Run}
 use Rattle.eg_model.specs.Rows.{record_rows}
@@ -30,6 +32,19 @@ engine_by b s (row ∷ before) =
     b.step s.cal.plant (engine_by b s before) commands.0 commands.1 row.on
     (effects s.fault row.tick).held_plate
 
+-- the permitted torque before a row in its span: that of the row before, and 0 at the first row of a span
+unfoldable pub limit_before : Row → List Row → ℕ
+limit_before row [] = 0
+limit_before row (last ∷ before) = if row.fresh then 0 else last.limit
+
+-- the limit of each of these rows is what the driver demands by its drive row, or down the ramp from the
+-- row before in its span
+unfoldable pub ArePermitted : CalibrationParts → List Row → Type 0
+ArePermitted cal [] = Unit {0}
+ArePermitted cal (row ∷ before) =
+    (row.limit ≡ ramped cal.rules.fall (limit_before row before) (demand_at cal row.drive))
+    × ArePermitted cal before
+
 -- a row has what an engine shows
 pub record HasShown (row : Row) (shown : Shown) : Type 0 where
   pub plate : row.plate ≡ shown.position
@@ -41,15 +56,16 @@ abbrev pub ShowEngine : {E : Type 0} → BenchEngine E → Setting → List Row 
 ShowEngine b s [] = Unit {0}
 ShowEngine b s (row ∷ before) = HasShown row (b.shows (engine_by b s (row ∷ before))) × ShowEngine b s before
 
--- These rows show a run of this drive in this setting: the tick of each row is the count of the rows before
--- it; its drive row is that of the drive; its limit is the torque that its drive row permits; it has what the
--- engine shows; and where the stages are off there is no torque. A path that the fault lets conduct with its
--- latch open conducts, and one that the fault doesn't let conduct with its latch closed doesn't.
+-- These rows show a run of this drive in this setting: the tick of each row is the count of the rows
+-- before it; its drive row is that of the drive; its limit is the permitted torque, by the drive rows of
+-- its span; it has what the engine shows; and where the stages are off there is no torque. A path that the
+-- fault lets conduct with its latch open conducts, and one that the fault doesn't let conduct with its
+-- latch closed doesn't.
 pub record ShowsRun {E : Type 0} (b : BenchEngine E) (s : Setting) (drive : List DriveRow) (rows : List Row)
     : Type 0 where
   pub numbered : AreRows rows
   pub driven : map (λ row. row.drive) rows ≡ reverse drive
-  pub permitted : All (λ row. row.limit ≡ limit_at s.cal row.drive) rows
+  pub permitted : ArePermitted s.cal rows
   pub engine : ShowEngine b s rows
   pub no_torque : All (λ row. row.on ≡ false → row.torque ≡ 0) rows
   pub closed1 : All (λ row. (effects s.fault row.tick).conducts PATH_1 true ≡ true → row.path1 ≡ true) rows

@@ -3,12 +3,12 @@ ghost use Rattle.eg_laws.specs.Availability.{KeepsPath2, TripsAloneCut, NoTripCo
 ghost use Rattle.eg_plant.specs.declared.engine_kind.EngineKind.{EngineKind};
 ghost use Rattle.eg_model.specs.Engines.{bench_of};
 
-/// Under which lapses wrong answers never cut before a trip (docs/CONCEPT.md, "Lapses"): in a drive span in
-/// which any two ticks that level 2 misses lie at least `eg_answer::miss_spacing` ticks apart, wrong answers
-/// aren't confirmed as long as no trip has come, and path 2 isn't ordered open. So a trip alone cuts there;
-/// and under any lapse, if the engine shows one load twice, none comes where the full-efficiency excess comes
-/// at no tick of the span. A lapse that leaves out a single tick, or one tick every `miss_spacing` ticks or
-/// more, keeps that distance. It does nothing when it runs.
+/// Under which lapses wrong answers never cut before a trip (docs/CONCEPT.md, "Lapses"): in a drive span
+/// in which any two ticks that level 2 misses lie at least `eg_answer::miss_spacing` ticks apart, wrong
+/// answers aren't confirmed as long as no trip has come, and path 2 isn't ordered open. So a trip alone
+/// cuts there; and under any lapse, if there is no ramp and the engine shows one load twice, none comes
+/// where the full-efficiency excess comes at no tick of the span. A lapse that leaves out a single tick,
+/// or one tick every `miss_spacing` ticks or more, keeps that distance. It does nothing when it runs.
 pub fn far_misses_never_cut()
     ensures path_2 { KeepsPath2 }
     ensures trips { TripsAloneCut }

@@ -3,7 +3,7 @@ ghost use Rattle.std.specs.Prelude.{false, true, [], ◌∷◌, ◌++◌, replic
 ghost use Rattle.eg_values.specs.Calibration.{IsAccepted};
 ghost use Rattle.eg_values.specs.Reference.{reference_parts};
 ghost use Rattle.eg_laws.specs.Seeing.{SeenExcessIsCut, SeenExcessIsCutInTime};
-ghost use Rattle.eg_laws.specs.Examples.{StaysOn, Shows, high_pedal, low_loads, low_speeds, braked_parts, unseen_brake, left_out, disturbed_between, both_closed, closed_and_wild, missed_last, cut_late};
+ghost use Rattle.eg_laws.specs.Examples.{StaysOn, Shows, high_pedal, low_loads, low_speeds, braked_parts, unseen_brake, left_out, disturbed_between, both_closed, closed_and_wild, missed_last, cut_late, ramped_parts, disturbed_once};
 
 /// The reaction under several faults at once, whatever they are (docs/CONCEPT.md, "Why the unit reacts"):
 /// where level 2 sees each excess up to the tick that confirms one, the stages are off from the next tick
@@ -14,13 +14,15 @@ pub fn seen_excess_is_cut()
     ensures in_time { SeenExcessIsCutInTime }
 {}
 
-/// Of what `seen_excess_is_cut` asks these are needed, each by a run with the reference calibration. There is
-/// excess at 60 ticks, and the stages are on at each: where both tracks of pedal, of load or of speed read
-/// wrongly, or both contacts of a brake that counts; where module 4 is left out and path 2 is closed, or it
-/// is disturbed at all ticks but the send ticks; where both paths are closed; or where path 1 is closed and
-/// the monitoring module is wild. Where module 6 is left out once, at the tick by which the excess is
-/// confirmed, the stages stay on. Where path 1 is closed and answers are sent a tick earlier, they are still
-/// on R ticks after the excess is confirmed. It does nothing when it runs.
+/// Of what `seen_excess_is_cut` asks these are needed, each by a run with the reference calibration. There
+/// is excess at 60 ticks, and the stages are on at each: where both tracks of pedal, of load or of speed
+/// read wrongly, or both contacts of a brake that counts; where module 4 is left out and path 2 is closed,
+/// or it is disturbed at all ticks but the send ticks; where both paths are closed; or where path 1 is
+/// closed and the monitoring module is wild. Where module 6 is left out once, at the tick by which the
+/// excess is confirmed, the stages stay on. With a ramp that falls by 5.0 Nm a tick they stay on where
+/// module 2 is disturbed at one quiet tick, before 40 ticks of excess: its permitted torque comes down the
+/// ramp from there, so that level 2 doesn't see the excess. Where path 1 is closed and answers are sent a
+/// tick earlier, they are still on R ticks after the excess is confirmed. It does nothing when it runs.
 pub fn premises_are_needed()
     ensures pedal { StaysOn reference_parts high_pedal }
     ensures loads { StaysOn reference_parts low_loads }
@@ -30,7 +32,9 @@ pub fn premises_are_needed()
     ensures undisturbed { StaysOn reference_parts disturbed_between }
     ensures paths { StaysOn reference_parts both_closed }
     ensures wild { StaysOn reference_parts closed_and_wild }
-    ensures up_to_confirmed { Shows missed_last 14 (replicate 51 true) }
-    ensures sends { Shows cut_late 15 (replicate 50 true ++ false ∷ []) }
+    ensures up_to_confirmed { Shows reference_parts missed_last 14 (replicate 51 true) }
+    ensures all_ticks { Shows ramped_parts disturbed_once 15 (replicate 51 true) }
+    ensures sends { Shows reference_parts cut_late 15 (replicate 50 true ++ false ∷ []) }
     ensures accepted { IsAccepted reference_parts → IsAccepted braked_parts }
+    ensures ramped { IsAccepted reference_parts → IsAccepted ramped_parts }
 {}

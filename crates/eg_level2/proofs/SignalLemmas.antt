@@ -2,6 +2,7 @@
 use Rattle.std.proofs.Common.{◌≡◌, ◌∙◌, refl, ap, ap₂, subst, ℕ, zero, suc, ◌-◌, ◌≤◌, Bool, true, false, List, ◌++◌, arith}
 use Rattle.std.specs.Prelude.{Result, if◌then◌else◌, bit_xor, slice_index}
 use Rattle.eg_guard.specs.Memory.{ShownMemory}
+use Rattle.eg_torque.specs.Ramp.{ramped}
 use Rattle.eg_answer.specs.Answers.{results_of}
 use Rattle.eg_answer.specs.Formulas.{permitted_torque}
 use Rattle.eg_answer.specs.Token.{next_token_of}
@@ -33,9 +34,13 @@ module _ (parts : Level2Parts) (memory : List ℕ) (tick : ℕ) (phase : Phase) 
     abbrev result : ℕ → ℕ
     result n = slice_index (results_of parts.rules row) (n - 1)
 
-    written_2 : written (named f) (signal 2) d ≡ written (named f) (permitted_torque parts.rules (readings_of memory) (f 0)) d
+    -- what is permitted where no trip stands
+    abbrev torque : ℕ
+    torque = ramped parts.rules.fall (f 1) (permitted_torque parts.rules (readings_of memory) (f 0))
+
+    written_2 : written (named f) (signal 2) d ≡ written (named f) torque d
     unfolding signal_of written named
-    written_2 = unless_tripped (is_set (f 11)) (permitted_torque parts.rules (readings_of memory) (f 0)) d
+    written_2 = unless_tripped (is_set (f 11)) torque d
 
     stores : (n : ℕ) → 1 ≤ n → n ≤ 5 → signalling n (signal n) (result n) d f ≡ stores_of (inputs_of parts memory tick phase d) n (named f)
     unfolding signal_of results_of stores_of signal_stores in_order module_step inputs_of named signalling written signed pedal_step permitted_step actual_step excess_step pairs_step

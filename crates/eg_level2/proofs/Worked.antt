@@ -4,6 +4,7 @@ use Rattle.std.specs.Prelude.{fold, map, take, Some, None}
 use Rattle.eg_num.specs.Interpolation.{value_at}
 use Rattle.eg_num.specs.Counting.{fed}
 use Rattle.eg_torque.specs.Permit.{permitted}
+use Rattle.eg_torque.specs.Ramp.{ramped}
 use Rattle.eg_torque.specs.Excess.{is_excess}
 use Rattle.eg_sensor.specs.Readings.{has_bit, sound_readings}
 use Rattle.eg_sensor.specs.declared.readings.Readings.{Readings}
@@ -30,6 +31,7 @@ rules = record {
     columns = 800 ∷ 3000 ∷ 6000 ∷ [];
     values = 200 ∷ 100 ∷ 0 ∷ 1000 ∷ 1200 ∷ 900 ∷ 2000 ∷ 2400 ∷ 1800 ∷ [];
   };
+  fall = 65535;
   kt = 2500;
   threshold = 200;
   tolerances = 50 ∷ 50 ∷ 50 ∷ 50 ∷ [];
@@ -75,7 +77,8 @@ idle = sound_readings 0 0 (40 ∷ 40 ∷ []) 800 0
 
 -- runs of these modules, in this order, with all that they are made of opened
 unfoldable run : Inputs → List ℕ → Words → Words
-unfolding value_at permitted is_excess mixed pedal_result permitted_result estimate_result excess_result pairs_result next_token_of fed
+unfolding value_at permitted ramped is_excess mixed pedal_result permitted_result estimate_result excess_result pairs_result
+    next_token_of fed
     is_set row_of permitted_torque estimated_torque excess_number disagreeing_pairs marked check_step written signed pedal_step permitted_step
     actual_step excess_step pairs_step has_bit pedal_bit plate_bit load_bit speed_bit torque_bit counted is_found debounced limits trips debounce_step
     closed_flow answers_now react_step module_step start feeds_now feeds sends
@@ -190,6 +193,31 @@ heavy_six : run (inputs heavy 5 Quiet 7) (to_react ++ 7 ∷ []) (ticks heavy (0 
     ≡ record after_tick_0 { pedal = 0; permitted = 0; actual = 0; torque_counter = 5; trip = 1; last = 5; sign = 23925 }
 unfolding run
 heavy_six = refl
+
+-- ---- a ramp ----
+
+-- a fall of 50 in a tick
+unfoldable ramping : ℕ → Inputs
+ramping tick = record (inputs idle tick Quiet 0) { rules = record rules { fall = 50 } }
+
+-- from 1000 the word comes down to 950, where the idle pedal demands 200, and no excess shows
+ramp_1 : run (ramping 1) all (record after_tick_0 { permitted = 1000 }) ≡ record after_tick_0 { permitted = 950; last = 1 }
+unfolding run ramping
+ramp_1 = refl
+
+-- and tick by tick to the demand, which it doesn't fall below
+abbrev ramped_down : List ℕ → Words
+ramped_down = fold (λ before tick. run (ramping tick) all before) (record after_tick_0 { permitted = 320 })
+
+ramp_down : map (λ n. (ramped_down (take n (1 ∷ 2 ∷ 3 ∷ 4 ∷ []))).permitted) (1 ∷ 2 ∷ 3 ∷ 4 ∷ [])
+    ≡ 270 ∷ 220 ∷ 200 ∷ 200 ∷ []
+unfolding run ramping
+ramp_down = refl
+
+-- from the words of the start on the demand is permitted at once
+ramp_start : (run (ramping 0) all start).permitted ≡ 200
+unfolding run ramping
+ramp_start = refl
 
 -- ---- a test of the shut-off paths ----
 

@@ -4,6 +4,7 @@ use Rattle.std.specs.Prelude.{nat_lt, if◌then◌else◌, ◌==◌, Option, Som
 use Rattle.eg_num.specs.Interpolation.{value_at}
 use Rattle.eg_num.specs.Counting.{fed}
 use Rattle.eg_torque.specs.Permit.{permitted}
+use Rattle.eg_torque.specs.Ramp.{ramped}
 use Rattle.eg_torque.specs.Excess.{is_excess}
 use Rattle.eg_sensor.specs.Readings.{has_bit}
 use Rattle.eg_answer.specs.Folds.{mixed, fold_of}
@@ -53,7 +54,8 @@ empty tick = doing tick Send none sound
 
 -- a tick, and its answer, with all that they are made of opened
 unfoldable tick : Doing → Words → Words
-unfolding value_at permitted is_excess mixed pedal_result permitted_result estimate_result excess_result pairs_result next_token_of fed
+unfolding value_at permitted ramped is_excess mixed pedal_result permitted_result estimate_result excess_result pairs_result
+    next_token_of fed
     is_set row_of permitted_torque estimated_torque excess_number disagreeing_pairs marked check_step given_up written signed pedal_step
     permitted_step actual_step excess_step pairs_step has_bit pedal_bit plate_bit load_bit speed_bit torque_bit counted is_found debounced
     limits trips debounce_step closed_flow answers_now react_step module_step inputs_for after_module after_modules after_tick start

@@ -7,6 +7,7 @@ use Rattle.eg_num.specs.Counting.{fed}
 use Rattle.eg_num.specs.declared.watches.Watches.{Watches}
 use Rattle.eg_sensor.specs.Readings.{used_pedal}
 use Rattle.eg_sensor.specs.declared.readings.Readings.{Readings}
+use Rattle.eg_torque.specs.Ramp.{ramped}
 use Rattle.eg_answer.specs.declared.modules.TheConstants.{CHECK, PEDAL, PERMITTED, ACTUAL, EXCESS, PAIRS, DEBOUNCE, REACT}
 use Rattle.eg_answer.specs.declared.rules.Rules.{Rules}
 use Rattle.eg_answer.specs.declared.rules.TestRow.{TestRow}
@@ -77,10 +78,12 @@ pedal_step readings row disturbance words = record words {
   sign = signed words (pedal_result row) disturbance;
 }
 
--- module 2, permitted torque: of the pedal word, and of the speeds and the raise that are read
+-- module 2, permitted torque: what the pedal word, and the speeds and the raise that are read, demand, or
+-- down the ramp from the word for the permitted torque as it stands
 unfoldable pub permitted_step : Rules → Readings → TestRow → ℕ → Words → Words
 permitted_step rules readings row disturbance words = record words {
-  permitted = written words (permitted_torque rules readings words.pedal) disturbance;
+  permitted = written words
+      (ramped rules.fall words.permitted (permitted_torque rules readings words.pedal)) disturbance;
   token = next_token_of words.token PERMITTED;
   sign = signed words (permitted_result rules row) disturbance;
 }

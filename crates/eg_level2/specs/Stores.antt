@@ -9,6 +9,7 @@ use Rattle.eg_num.specs.Windows.{WeightParts}
 use Rattle.eg_num.specs.Counting.{fed}
 use Rattle.eg_sensor.specs.Readings.{used_pedal}
 use Rattle.eg_sensor.specs.declared.readings.Readings.{Readings}
+use Rattle.eg_torque.specs.Ramp.{ramped}
 use Rattle.eg_answer.specs.declared.modules.TheConstants.{PEDAL, PERMITTED, ACTUAL, EXCESS}
 use Rattle.eg_answer.specs.Formulas.{permitted_torque, estimated_torque, excess_number, disagreeing_pairs}
 use Rattle.eg_answer.specs.Token.{next_token_of}
@@ -66,7 +67,8 @@ unfoldable pub signal_of : Rules → Readings → ℕ → Words → ℕ
 signal_of rules readings number words =
     if number == PEDAL then used_pedal readings.pedal (is_set words.limp)
     else if number == PERMITTED
-    then (if is_set words.trip then 0 else permitted_torque rules readings words.pedal)
+    then (if is_set words.trip then 0
+    else ramped rules.fall words.permitted (permitted_torque rules readings words.pedal))
     else if number == ACTUAL then estimated_torque rules readings
     else if number == EXCESS then excess_number rules words.permitted words.actual
     else disagreeing_pairs rules readings

@@ -4,6 +4,7 @@ ghost use Rattle.std.specs.Prelude.{◌≡◌, ◌≤◌, bit_xor, if◌then◌e
 ghost use Rattle.eg_answer.specs.declared.modules.TheConstants.{PEDAL as PEDAL_MODULE, PAIRS as PAIRS_MODULE};
 ghost use Rattle.eg_answer.specs.Formulas.{permitted_torque as torque_of};
 ghost use Rattle.eg_answer.specs.Folds.{mixed};
+ghost use Rattle.eg_torque.specs.Ramp.{ramped as torque_ramped};
 ghost use Rattle.eg_level2.specs.Words.{word_at, words_of};
 ghost use Rattle.eg_level2.specs.Inputs.{IsLookup, readings_of};
 ghost use Rattle.eg_level2.specs.Stores.{Makes, signal_of, signalling};
@@ -17,6 +18,7 @@ use eg_answer::{
 use eg_base::NoMemory;
 use eg_guard::Guarded;
 use eg_sensor::{Readings, checked_raise, used};
+use eg_torque::ramped;
 
 /// The signal of a module of number 1 to 5 (docs/CONCEPT.md, "Level 2"): the pedal that level 2 uses, in per
 /// mille; the permitted torque and the actual torque, in tenths of Nm; 1 where the actual torque is an excess
@@ -32,13 +34,8 @@ pub(crate) fn signal<M: Guarded>(number: u8, memory: &M, rules: &Rules, lookup: 
         eg_answer::PEDAL => used(readings(memory).pedal, is_set(word(memory, LIMP))),
         eg_answer::PERMITTED => {
             let tripped = is_set(word(memory, TRIP));
-            permit(
-                rules,
-                lookup,
-                tripped,
-                word(memory, PEDAL),
-                &readings(memory),
-            )
+            let (before, pedal) = (word(memory, PERMITTED), word(memory, PEDAL));
+            permit(rules, lookup, tripped, before, pedal, &readings(memory))
         }
         eg_answer::ACTUAL => estimated_torque(rules, &readings(memory)),
         eg_answer::EXCESS => excess_number(rules, word(memory, PERMITTED), word(memory, ACTUAL)),
@@ -46,16 +43,32 @@ pub(crate) fn signal<M: Guarded>(number: u8, memory: &M, rules: &Rules, lookup: 
     }
 }
 
-/// The permitted torque at a pedal (per mille), and at the speeds and the raise that are read. Where a trip
-/// stands it isn't worked out, since 0 is written in any case.
-#[tactic(auto, using(crate::proofs::ModuleLemmas::looked_up))]
-fn permit(rules: &Rules, lookup: &Lookup, tripped: bool, pedal: u16, read: &Readings) -> u16
+/// The permitted torque, where it was `before`, by the pedal (per mille) and by the speeds and the raise
+/// that are read. Where a trip stands it isn't worked out, since 0 is written in any case.
+fn permit(
+    rules: &Rules,
+    lookup: &Lookup,
+    tripped: bool,
+    before: u16,
+    pedal: u16,
+    read: &Readings,
+) -> u16
     requires { IsLookup rules.now lookup.now }
-    ensures { result ≡ (if tripped then 0 else torque_of rules.now read.now pedal) }
+    ensures { result ≡ (if tripped then 0
+        else torque_ramped rules.now.fall before (torque_of rules.now read.now pedal)) }
 {
     if tripped {
         return 0;
     }
+    ramped(rules.fall, before, demanded(rules, lookup, pedal, read))
+}
+
+/// The torque that a pedal (per mille) demands at the speeds and the raise that are read, in tenths of Nm.
+#[tactic(auto, using(crate::proofs::ModuleLemmas::looked_up))]
+fn demanded(rules: &Rules, lookup: &Lookup, pedal: u16, read: &Readings) -> u16
+    requires { IsLookup rules.now lookup.now }
+    ensures { result ≡ torque_of rules.now read.now pedal }
+{
     let [first, second] = read.speed;
     if first == second && lookup.is_at(pedal, first) {
         return lookup

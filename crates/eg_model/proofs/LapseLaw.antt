@@ -6,8 +6,9 @@ use Rattle.std.proofs.lemmas.Bool.{cases_lt, false≢true, cases_Bool, and_parts
 use Rattle.eg_num.specs.Arithmetic.{quotient_up}
 use Rattle.eg_num.specs.Windows.{is_confirmed}
 use Rattle.eg_torque.specs.Excess.{is_excess}
-use Rattle.eg_answer.specs.Times.{feeds_to_confirm, periods_to_confirm, worth_of, HasLapseBound, rounds_to_confirm, lapse_periods, lapse_bound_of}
+use Rattle.eg_answer.specs.Times.{feeds_to_confirm, periods_to_confirm, worth_of, rounds_to_confirm, lapse_periods, lapse_bound_of}
 use Rattle.eg_values.specs.Calibration.{CalibrationParts, IsAccepted}
+use Rattle.eg_values.specs.Excess.{BoundsLapses}
 use Rattle.eg_record.specs.Excess.{true_excess}
 use Rattle.eg_model.specs.History.{Setting, Tick, Drive, Moment}
 use Rattle.eg_model.specs.Signals.{tripped}
@@ -29,7 +30,7 @@ use Rattle.eg_model.proofs.LapseWeights.{all_of_fewer, count_of_fewer, rounded_u
 -- the premises of both laws
 record Lapsing (s : Setting) : Type 0 where
   accepted : IsAccepted s.cal
-  bounded : HasLapseBound s.cal.rules.torque s.cal.times
+  bounded : BoundsLapses s.cal
   lapse : IsLapse s.fault
 
 -- how many ticks the whole periods of excess have that are cut
@@ -112,7 +113,7 @@ module _ (s : Setting) (h : List Tick) (g : EndsWithPeriods s h)
       confirmed enough =
           let all = all_of_fewer (λ b. b) counted ((rounds * round + 1) * period) (true_excesses s h)
           (omega arith) g.exceed.each in
-          let found = runs_find s g.lapsing.accepted h g.each g.proper counted all untripped in
+          let found = runs_find s g.lapsing.accepted g.lapsing.bounded.no_ramp h g.each g.proper counted all untripped in
           run_confirms s.cal.rules.torque runs (fed_bits torque_bit past)
           (let f = g.lapsing.accepted.torque.3 in omega arith) weighs
           (longer_run runs (runs_in counted past) (fed_bits torque_bit past) enough found)
@@ -163,9 +164,9 @@ module _ (s : Setting) (h : List Tick) (g : EndsWithPeriods s h)
   verdicts_confirm =
       confirms_few s.cal.times.weights rounds round (wrongs past)
       (let f = g.lapsing.accepted.answers.3 in omega arith)
-      (let f = seen.many in omega arith) g.lapsing.bounded
+      (let f = seen.many in omega arith) g.lapsing.bounded.bound
       (rounded_up s.cal.times.weights.limit (worth_of s.cal.rules.torque s.cal.times)
-      (let f = g.lapsing.bounded in omega arith)) few_right
+      (let f = g.lapsing.bounded.bound in omega arith)) few_right
 
 -- ---- and the stages stay off ----
 
@@ -270,7 +271,7 @@ room from whole period n positive long = record {
     back : first + whole - whole ≡ first
     back = omega arith
 
-pub lapses_are_short : (s : Setting) → IsAccepted s.cal → HasLapseBound s.cal.rules.torque s.cal.times → IsLapse s.fault →
+pub lapses_are_short : (s : Setting) → IsAccepted s.cal → BoundsLapses s.cal → IsLapse s.fault →
     (start : ℕ) (h : List Tick) → Follows s.fault start h → AreProper s h →
     (n : ℕ) → Exceeds s n h → n < lapse_bound_of s.cal.rules.torque s.cal.times
 unfolding lapse_bound_of
@@ -297,5 +298,5 @@ pub stretches_are_short : StretchesAreShort
 stretches_are_short cal accepted bounded s is lapse start h follows proper n exceed =
     subst (λ (c : CalibrationParts). n < lapse_bound_of c.rules.torque c.times) is
     (lapses_are_short s (subst IsAccepted (sym is) accepted)
-    (subst (λ (c : CalibrationParts). HasLapseBound c.rules.torque c.times) (sym is) bounded)
+    (subst BoundsLapses (sym is) bounded)
     lapse start h follows proper n exceed)

@@ -6,6 +6,7 @@ use Rattle.std.specs.List.{list_all, count_by}
 use Rattle.std.proofs.lemmas.List.Sums.{sum_by-cons}
 use Rattle.std.proofs.lemmas.Bool.{cases_Bool, false≢true, or_right, and_left, and_parts}
 use Rattle.eg_num.specs.Windows.{WeightParts}
+use Rattle.eg_torque.specs.declared.ramp.TheConstants.{NO_RAMP}
 use Rattle.eg_answer.specs.declared.modules.TheConstants.{DEBOUNCE, REACT}
 use Rattle.eg_values.specs.Calibration.{IsAccepted}
 use Rattle.eg_fault.specs.Effects.{Effects, no_effects}
@@ -160,21 +161,22 @@ run_same m past n w f ih = as_run
 abbrev pub AllExceed : Setting → ℕ → List Tick → Type 0
 AllExceed s n h = list_all (λ excess. excess) (take n (true_excesses s h)) ≡ true
 
--- each run in a stretch of excess feeds a bit that is set
-pub runs_find : (s : Setting) → IsAccepted s.cal → (h : List Tick) → AllOrNoneEach h → AreProper s h →
-    (n : ℕ) → AllExceed s n h →
+-- where there is no ramp, each run in a stretch of excess feeds a bit that is set
+pub runs_find : (s : Setting) → IsAccepted s.cal → s.cal.rules.fall ≡ NO_RAMP → (h : List Tick) → AllOrNoneEach h →
+    AreProper s h → (n : ℕ) → AllExceed s n h →
     tripped (moments_of s h) ≡ false → RunsFind n (moments_of s h)
 unfolding Each AreProper moments_of true_excesses rows_of row_of true_excess runs_in TrueRun
-runs_find s a h each proper zero over u = tt
-runs_find s a [] each proper (suc n) over u = tt
-runs_find s a (x ∷ h) each proper (suc n) over u =
+runs_find s a flat h each proper zero over u = tt
+runs_find s a flat [] each proper (suc n) over u = tt
+runs_find s a flat (x ∷ h) each proper (suc n) over u =
     let past = moments_of s h in
     let now = moment s x.effects x.entry past in
     let before = untripped_before now past u in
-    let found = runs_find s a h each.1 proper.1 n (and_parts _ _ over).1 before in
+    let found = runs_find s a flat h each.1 proper.1 n (and_parts _ _ over).1 before in
     elim (cases_Bool each.0.runs) [
       | inl runs ↦ (let seen = sees s x past each.0 runs in
           run_more now past n (whole-is s x past each.0 ∙ runs) (feeds-is s x past each.0 before ∙ runs)
-          (excess_seen s x past seen.runs seen.undisturbed before a (errs_safely s x past seen proper.0) (and_parts _ _ over).0) found)
+          (excess_seen s x past seen.runs seen.undisturbed before a (inl flat)
+          (errs_safely s x past seen proper.0) (and_parts _ _ over).0) found)
       | inr out ↦ run_same now past n (whole-is s x past each.0 ∙ out) (feeds-is s x past each.0 before ∙ out) found
     ]

@@ -17,7 +17,7 @@ use Rattle.eg_model.specs.Signals.{tripped, is_limited, last_signals, signal, si
 use Rattle.eg_model.specs.Detection.{feeds_at, fed_bits, finds, pedal_bit, plate_bit, load_bit, speed_bit, torque_bit}
 use Rattle.eg_model.specs.Answers.{is_answer, whole_since_answer, is_sent, is_good, mark_at, with_answer, answers_in, verdict_at, verdicts_in, confirms_at}
 use Rattle.eg_model.specs.Paths.{orders_open, latch1, latch2, path1_at, path2_at, both_conduct}
-use Rattle.eg_model.specs.Moments.{readings_at, sensed_at, moment_in, moments_in}
+use Rattle.eg_model.specs.Moments.{last_limit, limit_at, readings_at, sensed_at, moment_in, moments_in}
 use Rattle.eg_model.specs.Spans.{span_so_far, span_kind, has_passed, kind_at, before_at, moment_at, next_after, moments}
 use Rattle.eg_model.specs.Outputs.{running, without_slices, tick_without_slices, without_level1, SpansDisregardLevel1, RunsDisregardLevel1}
 use Rattle.eg_model.proofs.TickLemmas.{parts_of, nothing}
@@ -52,6 +52,11 @@ signals-bare : (past : List Moment) → last_signals (map without_level1 past) �
 unfolding last_signals without_level1
 signals-bare [] = refl
 signals-bare (m ∷ past) = refl
+
+limit-bare : (past : List Moment) → last_limit (map without_level1 past) ≡ last_limit past
+unfolding last_limit without_level1
+limit-bare [] = refl
+limit-bare (m ∷ past) = refl
 
 fed_bits-bare : (bit : Signals → Bool) (past : List Moment) → fed_bits bit (map without_level1 past) ≡ fed_bits bit past
 unfolding fed_bits without_level1
@@ -98,13 +103,14 @@ length-bare past = length-map past without_level1
 moment-bare : (kind : SpanKind) (s : Setting) (image : List ℕ) (x : Effects) (e : Entry) (past : List Moment) →
     without_level1 (moment_in kind (running image s) x (without_slices e) (map without_level1 past))
     ≡ without_level1 (moment_in kind s x e past)
-unfolding without_level1 without_slices moment_in readings_at sensed_at signals_at signal feeds_at finds mark_at is_sent is_good verdict_at orders_open both_conduct
+unfolding without_level1 without_slices moment_in limit_at readings_at sensed_at signals_at signal feeds_at finds mark_at is_sent is_good verdict_at orders_open both_conduct
 moment-bare kind s image x e past =
     rw (
       length-bare past,
       tripped-bare past,
       limited-bare past,
       signals-bare past,
+      limit-bare past,
       fed_bits-bare pedal_bit past,
       fed_bits-bare plate_bit past,
       fed_bits-bare load_bit past,

@@ -1,11 +1,13 @@
 -- A tick at which nothing is out of order: what level 2 makes of it before any trip.
-use Rattle.std.proofs.Common.{◌≡◌, ℕ, ◌+◌, ◌-◌, ◌≤◌, Bool, true, false, List, [], ◌∷◌, length, refl, sym, ap, ap₂, ◌∙◌, arith, nat_lt, min, max}
+use Rattle.std.proofs.Common.{◌≡◌, ℕ, ◌+◌, ◌-◌, ◌≤◌, Bool, true, false, List, [], ◌∷◌, length, refl, sym, ap, ap₂, ◌∙◌, arith, inl, inr, ◌⊎◌, nat_lt, min, max}
 use Rattle.std.specs.Prelude.{if◌then◌else◌, ◌==◌, slice_index}
 use Rattle.std.proofs.lemmas.Bool.{le-ltb, eq-eqb}
 use Rattle.eg_num.specs.Arithmetic.{estimate}
 use Rattle.eg_num.specs.Drive.{DriveRow, IsDrive}
 use Rattle.eg_num.specs.Interpolation.{grid_at}
 use Rattle.eg_torque.specs.Permit.{permitted, drive_permits}
+use Rattle.eg_torque.specs.Ramp.{ramped}
+use Rattle.eg_torque.specs.declared.ramp.TheConstants.{NO_RAMP}
 use Rattle.eg_torque.specs.Excess.{is_excess}
 use Rattle.eg_sensor.specs.Readings.{bit, has_bit, used_pedal, sound_readings}
 use Rattle.eg_sensor.specs.declared.readings.Readings.{Readings}
@@ -16,7 +18,7 @@ use Rattle.eg_model.specs.History.{Setting, Entry, Tick, Moment}
 use Rattle.eg_model.specs.Signals.{tripped, is_limited, last_signals}
 use Rattle.eg_model.specs.Detection.{pedal_bit, plate_bit, load_bit, speed_bit, torque_bit}
 use Rattle.eg_model.specs.Paths.{both_conduct}
-use Rattle.eg_model.specs.Moments.{effective_drive, readings_at, limit_at, moment}
+use Rattle.eg_model.specs.Moments.{effective_drive, readings_at, demand_at, last_limit, limit_at, moment}
 use Rattle.eg_model.specs.Rows.{row_of}
 use Rattle.eg_model.specs.Premises.{IsProper}
 use Rattle.eg_model.specs.Seeing.{Runs, IsUndisturbed}
@@ -53,6 +55,15 @@ unfolding has_bit
 flag_bit true = refl
 flag_bit false = refl
 
+-- level 2's permitted torque is the true one after these ticks, or it doesn't matter, since there is no ramp
+abbrev pub IsLevel : Setting → List Moment → Type 0
+IsLevel s past = (s.cal.rules.fall ≡ NO_RAMP) ⊎ ((last_signals past).permitted ≡ last_limit past)
+
+ramped-same : (fall a b c d : ℕ) → (fall ≡ NO_RAMP) ⊎ (a ≡ b) → c ≡ d → ramped fall a c ≡ ramped fall b d
+unfolding ramped
+ramped-same fall a b c d (inl none) same = rw (eq-eqb fall NO_RAMP none) same
+ramped-same fall a b c d (inr level) same = ap₂ (ramped fall) level same
+
 module _ (s : Setting) (e : Entry) (past : List Moment) (proper : IsProper s (both_conduct no_effects past) e)
     (loads : e.shown.load_2 ≡ e.shown.load_1) (untripped : tripped past ≡ false)
     (unlimited : is_limited past ≡ false) where
@@ -76,13 +87,14 @@ module _ (s : Setting) (e : Entry) (past : List Moment) (proper : IsProper s (bo
       ∙ ap (λ (r : Readings). used_pedal r.pedal (is_limited past)) (plain_readings s.cal e)
       ∙ else_of (is_limited past) 0 _ unlimited ∙ lower_is effective.pedal within.0
 
-  allowed-same : m.signals.permitted ≡ m.limit
-  allowed-same =
+  pub allowed-same : IsLevel s past → m.signals.permitted ≡ m.limit
+  allowed-same level =
       permitted-is s (plain e) past plain_runs plain_undisturbed untripped
-      ∙ ap₂ (permitted_torque s.cal.rules) (plain_readings s.cal e) pedal-same ∙ value ∙ sym limit-is
+      ∙ ramped-same s.cal.rules.fall _ _ _ _ level
+      (ap₂ (permitted_torque s.cal.rules) (plain_readings s.cal e) pedal-same ∙ value) ∙ sym limit-is
     where
-      limit-is : m.limit ≡ drive_permits s.cal.rules.permit effective
-      limit-is = (fields s no_effects e past).limit ∙ (unfold limit_at in refl)
+      limit-is : m.limit ≡ ramped s.cal.rules.fall (last_limit past) (drive_permits s.cal.rules.permit effective)
+      limit-is = (fields s no_effects e past).limit ∙ (unfold limit_at demand_at in refl)
 
       same : (a b r q : ℕ) → a ≡ b → r ≡ q → max (min a a) r ≡ max b q
       same a b r q e f = omega arith
@@ -108,10 +120,11 @@ module _ (s : Setting) (e : Entry) (past : List Moment) (proper : IsProper s (bo
       ∙ flag_bit (is_excess m.signals.actual m.signals.permitted s.cal.rules.threshold)
 
   -- the torque bit is the full-efficiency excess
-  pub torque_bit-is : torque_bit m.signals ≡ full_excess s.cal.rules.kt s.cal.rules.threshold (row_of (length past) m)
-  torque_bit-is =
+  pub torque_bit-is : IsLevel s past →
+      torque_bit m.signals ≡ full_excess s.cal.rules.kt s.cal.rules.threshold (row_of (length past) m)
+  torque_bit-is level =
       flag
-      ∙ ap₂ (λ a p. is_excess a p s.cal.rules.threshold) actual-same allowed-same
+      ∙ ap₂ (λ a p. is_excess a p s.cal.rules.threshold) actual-same (allowed-same level)
       ∙ sym (moment-full_excess s no_effects e past (length past))
 
   no_pairs : m.signals.pairs ≡ 0

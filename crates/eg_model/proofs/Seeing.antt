@@ -1,13 +1,15 @@
 -- Level 2 sees each true excess where one track of each pair is sound.
-use Rattle.std.proofs.Common.{◌≡◌, ℕ, ◌+◌, ◌-◌, ◌≤◌, ◌<◌, true, false, List, [], ◌∷◌, refl, sym, subst, ◌∙◌, arith, inl, inr, ◌⊎◌, min, max}
+use Rattle.std.proofs.Common.{◌≡◌, ℕ, Bool, ◌+◌, ◌-◌, ◌≤◌, ◌<◌, true, false, List, [], ◌∷◌, refl, sym, subst, ◌∙◌, arith, inl, inr, ◌⊎◌, min, max}
 use Rattle.std.proofs.lemmas.Bool.Decides.{nat_tests}
 use Rattle.std.specs.Prelude.{if◌then◌else◌, ◌==◌, slice_index}
 use Rattle.std.specs.Int.Bits.{xor_zero_r}
-use Rattle.std.proofs.lemmas.Bool.{cases_Bool, ltb-true, lt-ltb}
+use Rattle.std.proofs.lemmas.Bool.{cases_Bool, eq-eqb, ltb-true, lt-ltb}
 use Rattle.eg_num.specs.Arithmetic.{estimate}
 use Rattle.eg_num.specs.Drive.{DriveRow}
 use Rattle.eg_num.proofs.RisingLemmas.{estimate-rises}
 use Rattle.eg_torque.specs.Permit.{permitted, drive_permits}
+use Rattle.eg_torque.specs.Ramp.{ramped}
+use Rattle.eg_torque.specs.declared.ramp.TheConstants.{NO_RAMP}
 use Rattle.eg_torque.specs.Excess.{is_excess}
 use Rattle.eg_num.specs.Interpolation.{grid_at}
 use Rattle.eg_torque.proofs.PermitLemmas.{grid_at-rises}
@@ -16,13 +18,14 @@ use Rattle.eg_sensor.specs.Brake.{gated}
 use Rattle.eg_sensor.specs.declared.readings.Readings.{Readings}
 use Rattle.eg_values.specs.Calibration.{IsAccepted}
 use Rattle.eg_answer.specs.Formulas.{permitted_torque, estimated_torque, excess_number}
+use Rattle.eg_answer.specs.declared.modules.TheConstants.{PERMITTED}
 use Rattle.eg_sensor.specs.declared.tracks.TheConstants.{LOAD_1, LOAD_2}
 use Rattle.eg_fault.specs.Effects.{Effects, readings_under}
 use Rattle.eg_model.specs.History.{Setting, Tick, Moment}
-use Rattle.eg_model.specs.Signals.{tripped, is_limited, signal}
+use Rattle.eg_model.specs.Signals.{tripped, is_limited, no_signals, last_signals, signal}
 use Rattle.eg_model.specs.Detection.{torque_bit}
 use Rattle.eg_model.specs.Paths.{both_conduct}
-use Rattle.eg_model.specs.Moments.{effective_drive, is_braking, sensed_at, readings_at, limit_at, moment, moments_of}
+use Rattle.eg_model.specs.Moments.{effective_drive, is_braking, sensed_at, readings_at, demand_at, last_limit, limit_at, moment, moments_of}
 use Rattle.eg_model.specs.Premises.{AreProper, IsProper}
 use Rattle.eg_model.specs.Seeing.{Runs, IsUndisturbed, SeesExcess}
 use Rattle.eg_model.proofs.TickLemmas.{Each, moment-exceeds, fields}
@@ -113,6 +116,29 @@ pub signal_value : (x : Effects) (past : List Moment) (i before value : ℕ) →
 unfolding signal
 signal_value x past i before value r u h = rw (r.unflipped, r.ran i, h, u i) (xor_zero_r value)
 
+-- and after a trip it is 0
+signal_tripped : (x : Effects) (past : List Moment) (i before value : ℕ) → Runs x → tripped past ≡ true →
+    signal x past i before value ≡ 0
+unfolding signal
+signal_tripped x past i before value r h = rw (r.unflipped, r.ran i, h) refl
+
+-- ---- the ramp ----
+
+-- level 2's permitted torque lies at most as high as the true one after these ticks, or it doesn't matter, since there
+-- is no ramp
+abbrev pub IsLow : Setting → List Moment → Type 0
+IsLow s past = (s.cal.rules.fall ≡ NO_RAMP) ⊎ ((last_signals past).permitted ≤ last_limit past)
+
+-- of two numbers down the ramp the one that stood at most as high, and whose demand is at most as high, is the lower
+ramped-below : (fall a b c d : ℕ) → (fall ≡ NO_RAMP) ⊎ (a ≤ b) → c ≤ d → ramped fall a c ≤ ramped fall b d
+unfolding ramped
+ramped-below fall a b c d (inl none) less = rw (eq-eqb fall NO_RAMP none) less
+ramped-below fall a b c d (inr low) less = go (fall == NO_RAMP)
+  where
+    go : (none : Bool) → (if none then c else max c (a - fall)) ≤ (if none then d else max d (b - fall))
+    go true = less
+    go false = omega arith
+
 module _ (s : Setting) (x : Tick) (past : List Moment) (runs : Runs x.effects)
     (calm : IsUndisturbed x.effects) (untripped : tripped past ≡ false) where
   abbrev pub m : Moment
@@ -126,7 +152,8 @@ module _ (s : Setting) (x : Tick) (past : List Moment) (runs : Runs x.effects)
   actual-is = (fields s x.effects x.entry past).actual ∙ signal_value x.effects past 3 _ _ runs calm untripped
 
   pub permitted-is : m.signals.permitted
-      ≡ permitted_torque s.cal.rules (readings_at s.cal x.effects x.entry) m.signals.pedal
+      ≡ ramped s.cal.rules.fall (last_signals past).permitted
+      (permitted_torque s.cal.rules (readings_at s.cal x.effects x.entry) m.signals.pedal)
   permitted-is = (fields s x.effects x.entry past).permitted
       ∙ signal_value x.effects past 2 _ _ runs calm untripped
 
@@ -144,14 +171,14 @@ module _ (s : Setting) (x : Tick) (past : List Moment) (runs : Runs x.effects)
   abbrev effective : DriveRow
   effective = effective_drive s.cal x.entry.drive
 
-  permitted-below : IsAccepted s.cal → ErrsSafely s.cal.rules.kt reads effective x.entry.shown.torque →
+  permitted-below : IsAccepted s.cal → IsLow s past → ErrsSafely s.cal.rules.kt reads effective x.entry.shown.torque →
       m.signals.permitted ≤ m.limit
-  permitted-below accepted safe =
+  permitted-below accepted low safe =
       rw (permitted-is, limit-is)
-      (below reads safe.pedal safe.speed safe.raise pedal-below)
+      (ramped-below s.cal.rules.fall _ _ _ _ low (below reads safe.pedal safe.speed safe.raise pedal-below))
     where
-      limit-is : m.limit ≡ drive_permits s.cal.rules.permit effective
-      limit-is = (fields s x.effects x.entry past).limit ∙ (unfold limit_at in refl)
+      limit-is : m.limit ≡ ramped s.cal.rules.fall (last_limit past) (drive_permits s.cal.rules.permit effective)
+      limit-is = (fields s x.effects x.entry past).limit ∙ (unfold limit_at demand_at in refl)
 
       up : (p q v : ℕ) → p ≤ q → grid_at s.cal.rules.permit p v ≤ grid_at s.cal.rules.permit q v
       up = grid_at-rises s.cal.rules.permit accepted.grid accepted.permit
@@ -176,20 +203,32 @@ module _ (s : Setting) (x : Tick) (past : List Moment) (runs : Runs x.effects)
           at_speed (inr same) = inr (rw same (up _ _ _ (omega (arith, less, pedal))))
 
   -- true excess shows in the excess word
-  pub excess_seen : IsAccepted s.cal →
+  pub excess_seen : IsAccepted s.cal → IsLow s past →
       ErrsSafely s.cal.rules.kt (readings_at s.cal x.effects x.entry) (effective_drive s.cal x.entry.drive) x.entry.shown.torque →
       exceeds s m ≡ true → torque_bit m.signals ≡ true
-  excess_seen accepted safe over_now = unfold torque_bit has_bit in rw (excess-is, shows) refl
+  excess_seen accepted low safe over_now = unfold torque_bit has_bit in rw (excess-is, shows) refl
     where
       over : m.limit + s.cal.rules.threshold < x.entry.shown.torque
       over = ltb-true _ _ (unfold is_excess in sym (moment-exceeds s x.effects x.entry past) ∙ over_now)
 
       above : m.signals.permitted + s.cal.rules.threshold < m.signals.actual
-      above = let a = permitted-below accepted safe in let b = safe.load in
+      above = let a = permitted-below accepted low safe in let b = safe.load in
           rw actual-is (omega (arith, over, a, b))
 
       shows : excess_number s.cal.rules m.signals.permitted m.signals.actual ≡ 1
       shows = unfold excess_number is_excess in rw (lt-ltb _ _ above) refl
+
+-- where level 2 sees at each tick, its permitted torque lies at most as high as the true one
+pub stays_low : (s : Setting) → IsAccepted s.cal → (h : List Tick) → Each (λ x. SeesExcess x.effects) h →
+    AreProper s h → (last_signals (moments_of s h)).permitted ≤ last_limit (moments_of s h)
+unfolding AreProper Each moments_of last_signals last_limit no_signals
+stays_low s accepted [] each proper = omega arith
+stays_low s accepted (x ∷ h) each proper = elim (cases_Bool (tripped (moments_of s h))) [
+  | inl after ↦ rw ((fields s x.effects x.entry (moments_of s h)).permitted
+      ∙ signal_tripped x.effects (moments_of s h) PERMITTED _ _ each.0.runs after) (omega arith)
+  | inr before ↦ permitted-below s x (moments_of s h) each.0.runs each.0.undisturbed before accepted
+      (inr (stays_low s accepted h each.1 proper.1)) (errs_safely s x (moments_of s h) each.0 proper.0)
+]
 
 -- so the torque bit is set at each tick with true excess
 pub sees_all : (s : Setting) → IsAccepted s.cal → (h : List Tick) → Each (λ x. SeesExcess x.effects) h →
@@ -198,6 +237,6 @@ unfolding Sees AreProper Each
 sees_all s accepted [] each proper = tt
 sees_all s accepted (x ∷ h) each proper = (
   (λ u over. excess_seen s x (moments_of s h) each.0.runs each.0.undisturbed u accepted
-      (errs_safely s x (moments_of s h) each.0 proper.0) over),
+      (inr (stays_low s accepted h each.1 proper.1)) (errs_safely s x (moments_of s h) each.0 proper.0) over),
   sees_all s accepted h each.1 proper.1,
 )

@@ -20,12 +20,12 @@ use Rattle.eg_fault.specs.Effects.{no_effects, sends_in, sends_at}
 use Rattle.eg_fault.specs.declared.paths.TheConstants.{PATH_1}
 use Rattle.eg_record.specs.Excess.{full_excess}
 use Rattle.eg_model.specs.History.{Setting, Entry, Tick, Moment, Signals}
-use Rattle.eg_model.specs.Signals.{tripped, is_limited}
+use Rattle.eg_model.specs.Signals.{tripped, is_limited, no_signals, last_signals}
 use Rattle.eg_model.specs.Detection.{fed_bits, finds, torque_bit, feeds_at}
 use Rattle.eg_answer.specs.Modules.{modules_before_react, modules}
 use Rattle.eg_model.specs.Answers.{is_whole, is_undisturbed, is_answer, whole_since_answer, is_sent, is_good, mark_at, with_answer, answers_in, verdict_at, verdicts_in, confirms_at}
 use Rattle.eg_model.specs.Paths.{latch1, latch2, both_conduct, path1_at, path2_at}
-use Rattle.eg_model.specs.Moments.{moment, moments_of}
+use Rattle.eg_model.specs.Moments.{last_limit, moment, moments_of}
 use Rattle.eg_model.specs.Rows.{row_of, rows_of}
 use Rattle.eg_model.specs.Premises.{IsProper, AreProper, is_on_after, full_excesses}
 use Rattle.eg_model.specs.SharpCut.{IsPlain, ArePlain, CutsSharply}
@@ -34,7 +34,7 @@ use Rattle.eg_model.proofs.PeriodLemmas.{period_closes}
 use Rattle.eg_model.proofs.TickLemmas.{Each, length-moments, Pair, Pedal, bit_of, found_by, fields, no_trip, moment-orders, moment-feeds, trip_from_torque, tripped-cons, untripped_before}
 use Rattle.eg_model.proofs.TripLemmas.{fed_bits-cons, latch1-cons, off_after_trip, ReactsAll}
 use Rattle.eg_model.proofs.Silence.{latch2-cons, wrongs, with_wrong, wrongs-cons, period_least, send_within, verdict_none, verdict_some}
-use Rattle.eg_model.proofs.PlainTick.{plain, plain_runs, torque_bit-is, pair_good}
+use Rattle.eg_model.proofs.PlainTick.{plain, plain_runs, allowed-same, torque_bit-is, pair_good}
 
 -- ---- lists without a bad bit ----
 
@@ -121,6 +121,7 @@ untouched_at_first = record { untripped = refl; unlimited = refl; pairs = λ p. 
 
 pub record Calm (s : Setting) (h : List Tick) : Type 0 where
   pub untouched : Untouched (moments_of s h)
+  pub level : (last_signals (moments_of s h)).permitted ≡ last_limit (moments_of s h)
   pub torque : fed_bits torque_bit (moments_of s h) ≡ full_excesses s h
   pub closed : latch2 (moments_of s h) ≡ false
   pub right : AllGood (wrongs (moments_of s h))
@@ -128,9 +129,10 @@ pub record Calm (s : Setting) (h : List Tick) : Type 0 where
   pub answers : AreUsual s h
 
 calm_at_first : (s : Setting) → Calm s []
-unfolding moments_of fed_bits AllGood wrongs verdicts_in whole_since_answer latch2 AreUsual full_excesses rows_of
+unfolding moments_of no_signals last_signals last_limit fed_bits AllGood wrongs verdicts_in whole_since_answer latch2 AreUsual full_excesses rows_of
 calm_at_first s = record {
   untouched = untouched_at_first;
+  level = refl;
   torque = refl;
   closed = refl;
   right = tt;
@@ -338,7 +340,7 @@ module _ (s : Setting) (a : IsAccepted s.cal) (e : Entry) (h : List Tick)
   torque_list : fed_bits torque_bit (m ∷ past) ≡ full_excesses s (plain e ∷ h)
   torque_list = fed_bits-cons torque_bit m past fed
       ∙ ap₂ (λ b bits. b ∷ bits)
-      (torque_bit-is s e past proper loads calm.untouched.untripped calm.untouched.unlimited) calm.torque
+      (torque_bit-is s e past proper loads calm.untouched.untripped calm.untouched.unlimited (inr calm.level)) calm.torque
       ∙ sym (full_excesses-cons s (plain e) h)
 
   -- the torque watch is found where the full-efficiency excess is first reached
@@ -365,9 +367,10 @@ module _ (s : Setting) (a : IsAccepted s.cal) (e : Entry) (h : List Tick)
       ∙ no_answers s.cal.times m.verdict past (let l = a.answers.3 in omega arith) (not_wrong quiet) calm.right
 
   pub step_calm : IsFullBy s (plain e ∷ h) ≡ false → Calm s (plain e ∷ h)
-  unfolding moments_of AreUsual
+  unfolding moments_of AreUsual last_signals last_limit
   step_calm quiet = record {
     untouched = still_untouched s a e past proper loads calm.untouched (no_torque quiet);
+    level = allowed-same s e past proper loads calm.untouched.untripped calm.untouched.unlimited (inr calm.level);
     torque = torque_list;
     closed = latch2-cons m past ∙ or_from _ _ (or_from _ _ (unconfirmed quiet)
         ((fields s no_effects e past).opens ∙ (unfold no_effects in refl))) calm.closed;

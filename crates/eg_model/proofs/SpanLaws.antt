@@ -2,8 +2,9 @@
 use Rattle.std.proofs.Common.{◌≡◌, ◌∙◌, refl, sym, ap, subst, ℕ, zero, suc, ◌+◌, ◌-◌, ◌*◌, ◌≤◌, ◌<◌, Bool, true, false, not, List, [], ◌∷◌, ◌++◌, All, map, length, length-append, append_assoc, arith, inl, inr, Option, Some, None, nat_le, max}
 use Rattle.std.proofs.lemmas.Bool.{cases_lt, lt-leb, le-leb}
 use Rattle.eg_num.specs.Windows.{WeightParts, AreWeights, is_confirmed, first_index}
-use Rattle.eg_answer.specs.Times.{TimeParts, AreTimes, feeds_to_confirm, reaction_of, HasLapseBound, lapse_periods}
+use Rattle.eg_answer.specs.Times.{TimeParts, AreTimes, feeds_to_confirm, reaction_of, lapse_periods}
 use Rattle.eg_values.specs.Calibration.{IsAccepted}
+use Rattle.eg_values.specs.Excess.{BoundsLapses}
 use Rattle.eg_fault.specs.Effects.{no_effects}
 use Rattle.eg_fault.specs.Faults.{IsNoneOrValid, IsListed}
 use Rattle.eg_fault.specs.declared.class.Fault.{Fault}
@@ -140,7 +141,7 @@ module _ (s : Setting) (start : ℕ) (h : List Tick) where
 
   -- ---- lapses ----
 
-  pub cut_lapses : IsAccepted s.cal → HasLapseBound s.cal.rules.torque s.cal.times → IsLapse s.fault → Follows s.fault start h →
+  pub cut_lapses : IsAccepted s.cal → BoundsLapses s.cal → IsLapse s.fault → Follows s.fault start h →
       AreProper s h → CutStandingExcess s.cal start (SpanRows s start h)
   cut_lapses accepted bound lapse follows proper later before periods e size last = cut_part follows proper later before e law
     where
@@ -149,7 +150,7 @@ module _ (s : Setting) (start : ℕ) (h : List Tick) where
           (exceed s start (lapse_periods s.cal.rules.torque s.cal.times * s.cal.times.period) rest
           (subst (ExceedLast s.cal.rules.threshold (lapse_periods s.cal.rules.torque s.cal.times * s.cal.times.period)) are last))
 
-  pub short_lapses : IsAccepted s.cal → HasLapseBound s.cal.rules.torque s.cal.times → IsLapse s.fault → Follows s.fault start h →
+  pub short_lapses : IsAccepted s.cal → BoundsLapses s.cal → IsLapse s.fault → Follows s.fault start h →
       AreProper s h → ExcessIsShort s.cal start (SpanRows s start h)
   short_lapses accepted bound lapse follows proper later before n e last =
       lapses_are_short s accepted bound lapse start parts.rest

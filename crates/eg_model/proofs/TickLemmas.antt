@@ -7,6 +7,7 @@ use Rattle.eg_num.specs.Windows.{is_first}
 use Rattle.eg_num.specs.declared.watches.Watches.{Watches}
 use Rattle.eg_num.specs.Arithmetic.{estimate}
 use Rattle.eg_sensor.specs.Readings.{used_pedal}
+use Rattle.eg_torque.specs.Ramp.{ramped}
 use Rattle.eg_answer.specs.Formulas.{permitted_torque, estimated_torque, excess_number, disagreeing_pairs}
 use Rattle.eg_answer.specs.declared.marks.AnswerMark.TheVariants.{Absent, Good, Bad}
 use Rattle.eg_answer.specs.declared.modules.TheConstants.{PEDAL, PERMITTED, ACTUAL, EXCESS, PAIRS, REACT, DEBOUNCE}
@@ -83,7 +84,7 @@ pub record Fields (kind : SpanKind) (driven : Bool) (s : Setting) (x : Effects) 
   pub fresh : m.fresh ≡ (length past == 0)
   pub tick : m.tick ≡ length past
   pub entry : m.entry ≡ e
-  pub limit : m.limit ≡ limit_at s.cal e.drive
+  pub limit : m.limit ≡ limit_at s.cal e.drive past
   pub testing : m.testing ≡ is_testing kind s.cal.times (length past)
   pub passes : m.passes ≡ (reads_back kind s.cal.times (length past) && not (m.path1 || m.path2))
   pub path1 : m.path1 ≡ path1_at x past
@@ -93,7 +94,8 @@ pub record Fields (kind : SpanKind) (driven : Bool) (s : Setting) (x : Effects) 
   pub pedal : m.signals.pedal
       ≡ signal x past PEDAL (last_signals past).pedal (used_pedal (readings_at s.cal x e).pedal (is_limited past))
   pub permitted : m.signals.permitted ≡ signal x past PERMITTED (last_signals past).permitted
-      (permitted_torque s.cal.rules (readings_at s.cal x e) m.signals.pedal)
+      (ramped s.cal.rules.fall (last_signals past).permitted
+      (permitted_torque s.cal.rules (readings_at s.cal x e) m.signals.pedal))
   pub actual : m.signals.actual
       ≡ signal x past ACTUAL (last_signals past).actual (estimated_torque s.cal.rules (readings_at s.cal x e))
   pub excess : m.signals.excess ≡ signal x past EXCESS (last_signals past).excess

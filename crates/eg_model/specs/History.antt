@@ -57,7 +57,7 @@ pub record Moment : Type 0 where
   pub fresh : Bool
   pub tick : ℕ
   pub entry : Entry
-  -- the readings that both levels are given, and the permitted torque of the drive row
+  -- the readings that both levels are given, and the permitted torque
   pub reads : Readings
   pub limit : ℕ
   -- whether a start-up test is running, and whether it is passed now

@@ -4,8 +4,9 @@
 -- to give the answers that the monitoring module needs.
 use Rattle.std.specs.Prelude.{◌≡◌, ℕ, ◌*◌, ◌<◌, ◌≤◌, true, List, length, take, Option, Some}
 use Rattle.std.specs.List.{list_all}
-use Rattle.eg_answer.specs.Times.{HasLapseBound, lapse_periods, lapse_bound_of}
+use Rattle.eg_answer.specs.Times.{lapse_periods, lapse_bound_of}
 use Rattle.eg_values.specs.Calibration.{CalibrationParts, IsAccepted}
+use Rattle.eg_values.specs.Excess.{BoundsLapses}
 use Rattle.eg_fault.specs.declared.class.Class.TheVariants.{Lapse}
 use Rattle.eg_fault.specs.declared.class.Fault.{Fault}
 use Rattle.eg_model.specs.History.{Setting, Tick}
@@ -32,7 +33,7 @@ pub record Exceeds (s : Setting) (n : ℕ) (h : List Tick) : Type 0 where
 -- this law says nothing, and the law of stretches, below, does.)
 abbrev pub CutsStandingExcess : Type 0
 CutsStandingExcess =
-    (s : Setting) → IsAccepted s.cal → HasLapseBound s.cal.rules.torque s.cal.times → IsLapse s.fault →
+    (s : Setting) → IsAccepted s.cal → BoundsLapses s.cal → IsLapse s.fault →
     (start periods : ℕ) (h : List Tick) → length h ≡ periods * s.cal.times.period →
     Exceeds s (lapse_periods s.cal.rules.torque s.cal.times * s.cal.times.period) h → OffFrom s start h 1
 
@@ -46,5 +47,5 @@ StretchesStayBelow cal bound =
 -- The law of stretches: by an accepted calibration with a bound for lapses each is shorter than the bound.
 abbrev pub StretchesAreShort : Type 0
 StretchesAreShort =
-    (cal : CalibrationParts) → IsAccepted cal → HasLapseBound cal.rules.torque cal.times →
+    (cal : CalibrationParts) → IsAccepted cal → BoundsLapses cal →
     StretchesStayBelow cal (lapse_bound_of cal.rules.torque cal.times)

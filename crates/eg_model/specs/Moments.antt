@@ -6,6 +6,7 @@ use Rattle.eg_sensor.specs.Readings.{sound_readings}
 use Rattle.eg_sensor.specs.Brake.{sound_contacts, is_pressed, gated}
 use Rattle.eg_sensor.specs.declared.readings.Readings.{Readings}
 use Rattle.eg_torque.specs.Permit.{drive_permits}
+use Rattle.eg_torque.specs.Ramp.{ramped}
 use Rattle.eg_answer.specs.declared.marks.AnswerMark.TheVariants.{Absent}
 use Rattle.eg_fault.specs.Effects.{Effects, readings_under, contacts_under}
 use Rattle.eg_values.specs.Calibration.{CalibrationParts}
@@ -21,9 +22,20 @@ use Rattle.eg_model.specs.Level1.{world_at}
 unfoldable pub effective_drive : CalibrationParts → DriveRow → DriveRow
 effective_drive cal drive = if cal.brake && drive.brake then record drive { pedal = 0; raise = 0 } else drive
 
--- the torque that a drive row permits, in tenths of Nm: by the row itself, not by what is sensed of it
-unfoldable pub limit_at : CalibrationParts → DriveRow → ℕ
-limit_at cal drive = drive_permits cal.rules.permit (effective_drive cal drive)
+-- the torque that the driver demands by a drive row, in tenths of Nm: by the row itself, not by what is
+-- sensed of it
+unfoldable pub demand_at : CalibrationParts → DriveRow → ℕ
+demand_at cal drive = drive_permits cal.rules.permit (effective_drive cal drive)
+
+-- the permitted torque after the last of these ticks, in tenths of Nm, and 0 before the first tick of a span
+unfoldable pub last_limit : List Moment → ℕ
+last_limit [] = 0
+last_limit (m ∷ past) = m.limit
+
+-- the permitted torque of a drive row after these ticks: the driver's demand, or down the ramp from the tick
+-- before
+unfoldable pub limit_at : CalibrationParts → DriveRow → List Moment → ℕ
+limit_at cal drive past = ramped cal.rules.fall (last_limit past) (demand_at cal drive)
 
 -- whether the brake counts and the unit takes it as pressed, by what its two contacts read
 unfoldable pub is_braking : CalibrationParts → Effects → DriveRow → Bool
@@ -73,7 +85,7 @@ moment_in kind s x e past =
       tick = length past;
       entry = e;
       reads = reads;
-      limit = limit_at s.cal e.drive;
+      limit = limit_at s.cal e.drive past;
       testing = is_testing kind times (length past);
       passes = read_back && not (path1 || path2);
       path1 = path1;

@@ -6,8 +6,9 @@ use Rattle.std.specs.Prelude.{◌≡◌, ℕ, ◌+◌, ◌*◌, ◌≤◌, ◌<�
 use Rattle.std.specs.List.{list_all}
 use Rattle.eg_num.specs.Drive.{IsDrive}
 use Rattle.eg_num.specs.Windows.{WeightParts, is_confirmed, first_index}
-use Rattle.eg_answer.specs.Times.{reaction_of, HasLapseBound, lapse_periods, lapse_bound_of}
+use Rattle.eg_answer.specs.Times.{reaction_of, lapse_periods, lapse_bound_of}
 use Rattle.eg_values.specs.Calibration.{CalibrationParts, IsAccepted}
+use Rattle.eg_values.specs.Excess.{BoundsLapses}
 use Rattle.eg_fault.specs.Faults.{IsNoneOrValid, IsListed}
 use Rattle.eg_fault.specs.declared.class.Fault.{Fault}
 use Rattle.eg_record.specs.declared.row.Row.{Row}
@@ -145,14 +146,14 @@ RecordsCutSharplyBefore b =
 abbrev pub RecordsCutStandingExcess : {E : Type 0} → BenchEngine E → Type 0
 RecordsCutStandingExcess b =
     (r : Run) → IsRun r → IsNoneOrValid r.setting.fault →
-    HasLapseBound r.setting.cal.rules.torque r.setting.cal.times → IsLapse r.setting.fault →
+    BoundsLapses r.setting.cal → IsLapse r.setting.fault →
     EachDriveSpan (CutStandingExcess r.setting.cal) (record_rows b r)
 
 -- and each stretch of excess in it is shorter than the bound for lapses
 abbrev pub RecordsHaveShortExcess : {E : Type 0} → BenchEngine E → Type 0
 RecordsHaveShortExcess b =
     (r : Run) → IsRun r → IsNoneOrValid r.setting.fault →
-    HasLapseBound r.setting.cal.rules.torque r.setting.cal.times → IsLapse r.setting.fault →
+    BoundsLapses r.setting.cal → IsLapse r.setting.fault →
     EachDriveSpan (ExcessIsShort r.setting.cal) (record_rows b r)
 
 -- with no fault or a valid one: what spoils the answers cuts within R of its onset, in each drive span

@@ -5,6 +5,7 @@ use Rattle.std.specs.Prelude.{ℕ, Bool, not, is_some, List, [], ◌∷◌, bit_
 use Rattle.std.specs.List.{list_any}
 use Rattle.eg_sensor.specs.Readings.{used_pedal}
 use Rattle.eg_sensor.specs.declared.readings.Readings.{Readings}
+use Rattle.eg_torque.specs.Ramp.{ramped}
 use Rattle.eg_answer.specs.Formulas.{permitted_torque, estimated_torque, excess_number, disagreeing_pairs}
 use Rattle.eg_answer.specs.declared.modules.TheConstants.{PEDAL, PERMITTED, ACTUAL, EXCESS, PAIRS}
 use Rattle.eg_answer.specs.declared.rules.Rules.{Rules}
@@ -39,12 +40,14 @@ signal x past i before value =
     else bit_xor value (x.disturbance i)
 
 -- The five signals after a tick. The pedal is the lower of its two values, and 0 where it is limited; the
--- permitted torque is that of the pedal signal, and the excess that of the two torques' signals.
+-- permitted torque is what the pedal signal demands, or down the ramp from this signal as it was before;
+-- and the excess is that of the two torques' signals.
 unfoldable pub signals_at : Rules → Effects → Readings → List Moment → Signals
 signals_at rules x reads past =
     let before = last_signals past in
     let pedal = signal x past PEDAL before.pedal (used_pedal reads.pedal (is_limited past)) in
-    let allowed = signal x past PERMITTED before.permitted (permitted_torque rules reads pedal) in
+    let allowed = signal x past PERMITTED before.permitted
+    (ramped rules.fall before.permitted (permitted_torque rules reads pedal)) in
     let actual = signal x past ACTUAL before.actual (estimated_torque rules reads) in
     record {
       pedal = pedal;

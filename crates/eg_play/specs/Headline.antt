@@ -5,8 +5,8 @@
 -- keeps. That level 1 acts by its two outputs alone is said here.
 use Rattle.std.specs.Prelude.{◌≡◌, ℕ, List, All, Option, None}
 use Rattle.eg_num.specs.Drive.{DriveRow}
-use Rattle.eg_answer.specs.Times.{reaction_of, test_ticks_of, HasLapseBound}
-use Rattle.eg_values.specs.Excess.{ticks_to_confirm, longest_stretch}
+use Rattle.eg_answer.specs.Times.{reaction_of, test_ticks_of}
+use Rattle.eg_values.specs.Excess.{BoundsLapses, ticks_to_confirm, longest_stretch}
 use Rattle.eg_fault.specs.Faults.{IsListed}
 use Rattle.eg_word.specs.declared.registers.Trap.{Trap}
 use Rattle.eg_record.specs.declared.row.Row.{Row}
@@ -81,9 +81,9 @@ pub record Headline {E : Type 0} (b : BenchEngine E) (s : Setting) (drive : List
   pub tells_flips : TellsFlips s.fault rows
   -- Under lapses excess that stands is cut, and each stretch is below the bound, where there is a bound. (By
   -- some calibrations, such as the reference, none stands so long; there the second alone says something.)
-  pub lapses : HasLapseBound s.cal.rules.torque s.cal.times → IsLapse s.fault →
+  pub lapses : BoundsLapses s.cal → IsLapse s.fault →
       EachDriveSpan (CutStandingExcess s.cal) rows
-  pub short : HasLapseBound s.cal.rules.torque s.cal.times → IsLapse s.fault →
+  pub short : BoundsLapses s.cal → IsLapse s.fault →
       EachDriveSpan (ExcessIsShort s.cal) rows
   -- How long an excess lasts: with no fault or a listed one each stretch of true excess in a drive span has
   -- at most D - 1 + R rows, where D feeds confirm it; and at most D if the reaction is at once when it is

@@ -19,8 +19,8 @@ use eg_tick::Ticks;
 use eg_values::Calibration;
 use std::alloc::Global;
 
-/// Plays one run, without its resets, under a fault of each class at each `step`th tick, and puts the table of
-/// these runs (docs/FORMATS.md, "The table of `sweep`"). The ticks are counted in `steps`.
+/// Plays one run, without its resets, under a fault of each class at each `step`th tick, and puts the table
+/// of these runs (docs/FORMATS.md, "The table of `sweep`"). The ticks are counted in `steps`.
 pub fn put_table<K: Sink>(
     alloc: Global,
     calibration: &Calibration,

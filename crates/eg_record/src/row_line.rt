@@ -122,7 +122,8 @@ fn put_events(row: &Row, line: &mut [u8], end: usize) -> usize
     put_found(&row.found, line, start)
 }
 
-/// Puts the names of the watches that are found, or `-`, before a place of a line, and tells where they start.
+/// Puts the names of the watches that are found, or `-`, before a place of a line, and tells where they
+/// start.
 pub fn put_found(found: &Watches, line: &mut [u8], end: usize) -> usize
     requires room { 64 ≤ end }
     requires within { end ≤ length line.old }

@@ -1,6 +1,6 @@
 -- Closed and open loop agree: what is told of a span depends on four fields of its moments alone, and those of
 -- a tick at which level 2 runs freely follow from its readings and from the same fields before it.
-use Rattle.std.proofs.Common.{◌≡◌, ◌∙◌, refl, sym, ap, subst, ◌≤◌, ◌∷◌, [], ◌&&◌, ◌||◌, not, Bool, true, false, List, All, map, filter, bit_xor, arith, None}
+use Rattle.std.proofs.Common.{◌≡◌, ◌∙◌, refl, sym, ap, subst, ℕ, ◌≤◌, ◌∷◌, [], ◌&&◌, ◌||◌, not, Bool, true, false, List, All, map, filter, bit_xor, arith, None}
 use Rattle.std.specs.Prelude.{if◌then◌else◌}
 use Rattle.std.proofs.lemmas.List.Elements.{All-head, All-tail}
 use Rattle.eg_num.specs.Windows.{WeightParts, is_first}
@@ -8,12 +8,13 @@ use Rattle.eg_num.specs.Counting.{counted}
 use Rattle.eg_sensor.specs.Readings.{used_pedal}
 use Rattle.eg_sensor.specs.Brake.{is_pressed, gated, sound_contacts}
 use Rattle.eg_sensor.specs.declared.readings.Readings.{Readings}
+use Rattle.eg_torque.specs.Ramp.{ramped}
 use Rattle.eg_answer.specs.Formulas.{permitted_torque, estimated_torque, excess_number, disagreeing_pairs}
 use Rattle.eg_answer.specs.declared.rules.Rules.{Rules}
 use Rattle.eg_values.specs.Calibration.{CalibrationParts}
 use Rattle.eg_fault.specs.Effects.{Effects, no_effects, readings_under, contacts_under}
 use Rattle.eg_model.specs.History.{Setting, Entry, Tick, Drive, drives, Moment, Signals}
-use Rattle.eg_model.specs.Signals.{tripped, is_limited, signal, signals_at}
+use Rattle.eg_model.specs.Signals.{tripped, is_limited, last_signals, signal, signals_at}
 use Rattle.eg_model.specs.Detection.{pedal_bit, plate_bit, load_bit, speed_bit, torque_bit, feeds_at, fed_bits, finds}
 use Rattle.eg_model.specs.Paths.{reads_back}
 use Rattle.eg_model.specs.Moments.{is_braking, sensed_at, readings_at, some_trips, moment_in, moments_in}
@@ -29,12 +30,12 @@ use Rattle.eg_replay.proofs.RunLemmas.{reads-are}
 
 -- ---- the fields that count ----
 
--- the signals of a tick at which level 2 runs freely, by whether a trip came before it and whether the pedal
--- is limited
-abbrev signals_by : Rules → Readings → (gone limited : Bool) → Signals
-signals_by rules reads gone limited =
+-- the signals of a tick at which level 2 runs freely, by whether a trip came before it, whether the pedal is
+-- limited, and the permitted torque before it
+abbrev signals_by : Rules → Readings → (gone limited : Bool) → (from : ℕ) → Signals
+signals_by rules reads gone limited from =
     let pedal = if gone then 0 else bit_xor (used_pedal reads.pedal limited) 0 in
-    let allowed = if gone then 0 else bit_xor (permitted_torque rules reads pedal) 0 in
+    let allowed = if gone then 0 else bit_xor (ramped rules.fall from (permitted_torque rules reads pedal)) 0 in
     let actual = if gone then 0 else bit_xor (estimated_torque rules reads) 0 in
     record {
       pedal = pedal;
@@ -50,10 +51,11 @@ module _ (blank : Moment) where
   unfolding found_in_level2
   bare m = record blank { signals = m.signals; feeds = m.feeds; found = found_in_level2 m; trip = m.trip }
 
-  -- such a tick, `fed` being the bits that were fed before it
-  made : CalibrationParts → Readings → (gone limited : Bool) → (fed : (Signals → Bool) → List Bool) → Moment
-  made cal reads gone limited fed =
-      let signals = signals_by cal.rules reads gone limited in
+  -- such a tick, `from` being the permitted torque and `fed` the bits that were fed before it
+  made : CalibrationParts → Readings → (gone limited : Bool) → (from : ℕ) →
+      (fed : (Signals → Bool) → List Bool) → Moment
+  made cal reads gone limited from fed =
+      let signals = signals_by cal.rules reads gone limited from in
       let feeds = not gone && true in
       let finds = λ (w : WeightParts) (bit : Signals → Bool). feeds && is_first w (bit signals ∷ fed bit) in
       let plate = finds cal.rules.pair plate_bit in
@@ -87,6 +89,11 @@ module _ (blank : Moment) where
   unfolding is_limited bare found_in_level2
   limited-bare [] = refl
   limited-bare (m ∷ past) = ap (λ b. m.found.pedal || b) (limited-bare past)
+
+  signals-bare : (past : List Moment) → last_signals (map bare past) ≡ last_signals past
+  unfolding last_signals bare
+  signals-bare [] = refl
+  signals-bare (m ∷ past) = refl
 
   mirror-bare : (past : List Moment) → mirror_found (map bare past) ≡ mirror_found past
   unfolding mirror_found bare found_in_level2
@@ -143,7 +150,8 @@ module _ (blank : Moment) where
 
   tick-made : (s : Setting) (x : Effects) (e : Entry) (past : List Moment) → RunsFreely x →
       bare (moment_in Drive s x e past)
-      ≡ made s.cal (readings_at s.cal x e) (tripped past) (is_limited past) (λ bit. fed_bits bit past)
+      ≡ made s.cal (readings_at s.cal x e) (tripped past) (is_limited past) (last_signals past).permitted
+      (λ bit. fed_bits bit past)
   unfolding bare made found_in_level2 moment_in drives reads_back signals_at signal feeds_at finds readings_at is_braking contacts_under sensed_at readings_under
   tick-made s x e past free = ap (λ y. bare (moment_in Drive s y e past)) (freely x free)
 
@@ -213,10 +221,13 @@ module _ (blank : Moment) (s : Setting) where
       sym (tripped-bare blank (again h)) ∙ ap tripped before ∙ tripped-bare blank (was h) in
       let limited : is_limited (again h) ≡ is_limited (was h) =
       sym (limited-bare blank (again h)) ∙ ap is_limited before ∙ limited-bare blank (was h) in
+      let from : (last_signals (again h)).permitted ≡ (last_signals (was h)).permitted =
+      ap (λ (g : Signals). g.permitted)
+      (sym (signals-bare blank (again h)) ∙ ap last_signals before ∙ signals-bare blank (was h)) in
       let fed : (bit : Signals → Bool) → fed_bits bit (again h) ≡ fed_bits bit (was h) =
       λ bit. sym (fed-bare blank bit (again h)) ∙ ap (fed_bits bit) before ∙ fed-bare blank bit (was h) in
       tick-made blank (alone s.cal) (effects_of r) (entry_of r) (again h) (recorded-freely r)
-      ∙ (λ k. made blank s.cal (read-again s.cal x.effects x.entry k) (gone k) (limited k) (λ bit. fed bit k))
+      ∙ (λ k. made blank s.cal (read-again s.cal x.effects x.entry k) (gone k) (limited k) (from k) (λ bit. fed bit k))
       ∙ sym (tick-made blank s x.effects x.entry (was h) free)
 
   all-same : (h : List Tick) → All Free h → map (bare blank) (again h) ≡ map (bare blank) (was h)

@@ -7,7 +7,7 @@ use Rattle.eg_num.specs.Drive.{DriveRow, driven}
 use Rattle.eg_num.specs.Windows.{greatest_of, greatest}
 use Rattle.eg_num.specs.Counting.{fed, counted}
 use Rattle.eg_values.specs.Calibration.{CalibrationParts}
-use Rattle.eg_values.specs.Reference.{reference_parts}
+use Rattle.eg_values.specs.Reference.{reference_rules, reference_parts}
 use Rattle.eg_fault.specs.Effects.{Effects, no_effects}
 use Rattle.eg_model.specs.History.{Tick, SpanKind, Drive, Test}
 use Rattle.eg_model.specs.Moments.{moments_in}
@@ -47,12 +47,18 @@ load_off = tick (record no_effects { track = λ i sound. if i == 4 then 0 else s
 abbrev left_out : Tick
 left_out = tick (record no_effects { ran = λ i. false }) (driven 500 800 100)
 
--- what was told, and what a replay tells
+-- what was told by a calibration, and what a replay tells
+abbrev closed_by : CalibrationParts → SpanKind → List Tick → List TickSignals
+closed_by by kind h = told_of by (moments_in kind (alone by) h)
+
+abbrev open_loop_by : CalibrationParts → SpanKind → List Tick → List TickSignals
+open_loop_by by kind h = told_of by (replayed by (map recorded_at (moments_in kind (alone by) h)))
+
 abbrev closed : SpanKind → List Tick → List TickSignals
-closed kind h = told_of cal (moments_in kind (alone cal) h)
+closed = closed_by cal
 
 abbrev open_loop : SpanKind → List Tick → List TickSignals
-open_loop kind h = told_of cal (replayed cal (map recorded_at (moments_in kind (alone cal) h)))
+open_loop = open_loop_by cal
 
 -- what the debouncers of load and torque weigh, and the five signals
 abbrev numbers : List TickSignals → List (List ℕ)
@@ -67,6 +73,24 @@ was = refl
 agrees : open_loop Drive (load_off ∷ braking ∷ []) ≡ closed Drive (load_off ∷ braking ∷ [])
 unfolding whole_model told
 agrees = refl
+
+-- down a ramp of 50 in a tick, from the 1000 that the pedal permits to the 200 that it permits when braking
+abbrev ramping : CalibrationParts
+ramping = record cal { rules = record reference_rules { fall = 50 } }
+
+abbrev released : List Tick
+released = braking ∷ braking ∷ tick no_effects (driven 500 800 100) ∷ []
+
+ramp-was : numbers (closed_by ramping Drive released)
+    ≡ (0 ∷ 3 ∷ 0 ∷ 900 ∷ 1250 ∷ 1 ∷ 0 ∷ [])
+    ∷ (0 ∷ 2 ∷ 0 ∷ 950 ∷ 1250 ∷ 1 ∷ 0 ∷ [])
+    ∷ (0 ∷ 1 ∷ 500 ∷ 1000 ∷ 1250 ∷ 1 ∷ 0 ∷ []) ∷ []
+unfolding whole_model told
+ramp-was = refl
+
+ramp-agrees : open_loop_by ramping Drive released ≡ closed_by ramping Drive released
+unfolding whole_model told
+ramp-agrees = refl
 
 -- ---- where it doesn't tell the same ----
 

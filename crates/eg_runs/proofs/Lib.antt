@@ -6,6 +6,7 @@ pub mod WorkedFaults
 pub mod WorkedImages
 pub mod WorkedLapses
 pub mod WorkedMisses
+pub mod WorkedRamps
 pub mod WorkedUnusual
 pub mod WorkedCycles
 pub mod WorkedBraking

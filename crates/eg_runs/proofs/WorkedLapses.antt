@@ -1,12 +1,13 @@
 -- Runs under lapses, computed from the definitions.
 use Rattle.std.proofs.Common.{◌≡◌, ◌-◌, ◌*◌, ◌<◌, true, false, [], ◌∷◌, ◌++◌, map, filter, replicate, take, length, Some, None, refl, sym, subst, arith}
 use Rattle.std.specs.List.{list_all}
-use Rattle.eg_answer.specs.Times.{HasLapseBound, feeds_to_confirm, periods_to_confirm, worth_of, rounds_to_confirm, lapse_periods, lapse_bound_of}
+use Rattle.eg_answer.specs.Times.{feeds_to_confirm, periods_to_confirm, worth_of, rounds_to_confirm, lapse_periods, lapse_bound_of}
 use Rattle.eg_answer.specs.declared.marks.Verdict.TheVariants.{Wrong}
 use Rattle.eg_record.specs.declared.watch.Watch.TheVariants.{Answers}
 use Rattle.eg_record.specs.Excess.{true_excess}
 use Rattle.eg_values.specs.Reference.{reference_parts}
 use Rattle.eg_values.specs.Calibration.{IsAccepted}
+use Rattle.eg_values.specs.Excess.{BoundsLapses}
 use Rattle.eg_answer.specs.Answers as answers
 use Rattle.eg_answer.specs.Formulas as formulas
 use Rattle.eg_model.specs.Examples.{answers_of, verdicts_of, stages_of, moments_in_time, report_on, reported}
@@ -74,8 +75,11 @@ slow-accepted a = record {
   words = record { seeds = a.words.seeds; values = a.words.values };
 }
 
-pub standing-bound : HasLapseBound slow_parts.rules.torque slow_parts.times
-standing-bound = subst (λ c. (c - 1) * slow_parts.times.weights.down < slow_parts.times.weights.up) (sym one) (omega arith)
+pub standing-bound : BoundsLapses slow_parts
+standing-bound = record {
+  no_ramp = refl;
+  bound = subst (λ c. (c - 1) * slow_parts.times.weights.down < slow_parts.times.weights.up) (sym one) (omega arith);
+}
   where
     one : periods_to_confirm slow_parts.rules.torque slow_parts.times ≡ 1
     one = unfold periods_to_confirm feeds_to_confirm in refl

@@ -1,5 +1,6 @@
 pub mod WorkedLapses
 pub mod WorkedMisses
+pub mod Ramps
 pub mod UnusualRuns
 pub mod PowerCycles
 pub mod Braking

@@ -1,16 +1,18 @@
 // Runs under lapses, worked out from the definitions.
 ghost use Rattle.std.specs.Prelude.{◌≡◌, ◌*◌, [], ◌∷◌, ◌++◌, map, replicate, true, false, Some, None};
-ghost use Rattle.eg_answer.specs.Times.{HasLapseBound, lapse_periods, lapse_bound_of, HasMissSpacing, miss_spacing_of};
+ghost use Rattle.eg_answer.specs.Times.{lapse_periods, lapse_bound_of, HasMissSpacing, miss_spacing_of};
 ghost use Rattle.eg_values.specs.Reference.{reference_parts};
 ghost use Rattle.eg_values.specs.Calibration.{IsAccepted};
+ghost use Rattle.eg_values.specs.Excess.{BoundsLapses};
 ghost use Rattle.eg_record.specs.declared.watch.Watch.TheVariants.{Answers, Torque};
 ghost use Rattle.eg_record.specs.Excess.{full_excess};
 ghost use Rattle.eg_model.specs.Engines.{gasoline};
 ghost use Rattle.eg_model.specs.Records.{rows_to, ExceedLast};
-ghost use Rattle.eg_model.specs.Examples.{rows_in_time, report_on, reported, answers_of, stages_of};
+ghost use Rattle.eg_model.specs.Examples.{full, rows_in_time, report_on, reported, answers_of, stages_of};
 ghost use Rattle.eg_runs.specs.WorkedLapses.{lapsing_run, slow_parts, standing_run, excesses_of};
 ghost use Rattle.eg_laws.specs.Availability.{IsSpacedLapse};
 ghost use Rattle.eg_runs.specs.WorkedMisses.{missed_from, sevens, missed_run, single_miss, gap_run, reported_with};
+ghost use Rattle.eg_runs.specs.Ramps.{ramped_run, raised_once};
 
 /// A run under lapses that is cut: level 2 runs at one tick of ten, so it feeds too few bits to find the
 /// excess of ticks 5 to 29, and sends no answer; `answers` is found at tick 29, and the stages are off from
@@ -29,7 +31,7 @@ pub fn a_run_with_lapses_is_cut()
 /// whole periods, and the stages are off from tick 50 on. It does nothing when it runs.
 pub fn standing_excess_run()
     ensures accepted { IsAccepted reference_parts → IsAccepted slow_parts }
-    ensures bound { HasLapseBound slow_parts.rules.torque slow_parts.times }
+    ensures bound { BoundsLapses slow_parts }
     ensures periods { lapse_periods slow_parts.rules.torque slow_parts.times ≡ 4 }
     ensures stands { ExceedLast 200 (lapse_periods slow_parts.rules.torque slow_parts.times * 10)
         (rows_to gasoline standing_run 50) }
@@ -59,4 +61,16 @@ pub fn missed_gap_is_cut()
         ≡ replicate 5 false ++ replicate 4 true ++ false ∷ true ∷ replicate 19 false }
     ensures uncut { report_on (gap_run None) ≡ reported None None None None }
     ensures cut { report_on (gap_run (missed_from 9 0)) ≡ reported (Some (Torque, 10)) (Some 11) None None }
+{}
+
+/// A single miss that cuts by a trip, with a ramp of 5.0 Nm a tick and without an excess: a raise permits
+/// all torque at tick 4, which level 2 misses. The permitted torque comes down the ramp from there, and
+/// level 2's stays at the 20.0 Nm that it was, so that it finds an excess at full throttle where there is
+/// none. Without the miss nothing is found. It does nothing when it runs.
+pub fn a_miss_cuts_on_the_ramp()
+    ensures excesses { map (full_excess 2500 200)
+        (rows_in_time (ramped_run full (missed_from 4 0) raised_once)) ≡ replicate 30 false }
+    ensures uncut { report_on (ramped_run full None raised_once) ≡ reported None None None None }
+    ensures cut { report_on (ramped_run full (missed_from 4 0) raised_once)
+        ≡ reported (Some (Torque, 9)) (Some 10) None None }
 {}

@@ -11,6 +11,7 @@ mod faulty_runs;
 mod lapses;
 mod outputs;
 mod power_cycles;
+mod ramps;
 mod short_faulty_runs;
 mod short_runs;
 mod unusual_runs;
@@ -30,8 +31,8 @@ pub use faulty_runs::{
     path_1_closes_run, raised_pedal_run, reaction_is_met, skipped_run,
 };
 pub use lapses::{
-    a_run_with_lapses_is_cut, missed_gap_is_cut, near_misses_cut_and_far_ones_do_not,
-    standing_excess_run,
+    a_miss_cuts_on_the_ramp, a_run_with_lapses_is_cut, missed_gap_is_cut,
+    near_misses_cut_and_far_ones_do_not, standing_excess_run,
 };
 pub use outputs::{full_in_two_ways, outputs_act_a_tick_later};
 pub use power_cycles::{
@@ -39,6 +40,7 @@ pub use power_cycles::{
     resets_near_a_test, test_that_fails, test_that_is_begun_anew, test_that_is_cut,
     test_that_passes, tests_under_faults, two_traps,
 };
+pub use ramps::{longest_ramp, permitted_torque_comes_down, ramp_keeps_the_stages_on};
 pub use short_faulty_runs::{
     disturbed_raise, failed_test, flip_seen_by_level_1, halted_and_held_runs, lapsed_run,
     latched_run, limited_run, offset_track, path_2_runs, wild_run,

@@ -13,7 +13,6 @@ use Rattle.eg_record.specs.Rows.{AreRows}
 use Rattle.eg_record.specs.Spans.{EachDriveSpan, EachTestSpan}
 use Rattle.eg_readings.specs.declared.answered.PartnerAnswer.{PartnerAnswer}
 use Rattle.eg_model.specs.History.{Setting, Moment}
-use Rattle.eg_model.specs.Moments.{limit_at}
 use Rattle.eg_model.specs.Spans.{moments}
 use Rattle.eg_model.specs.PowerCycles.{SpansBeginInTurn}
 use Rattle.eg_model.specs.Engines.{BenchEngine, KeepsBenchLaws, IsOneLoad, ShowsOneLoad}
@@ -21,7 +20,7 @@ use Rattle.eg_model.specs.Bench.{Run}
 use Rattle.eg_model.specs.Rows.{row_of, rows_of, record_rows}
 use Rattle.eg_model.specs.Records.{IsRun, ReactWithin, RowsReactAtOnce, CutFromOnset, CutOneTickAfter, CutSharplyBefore, CutStandingExcess, ExcessIsShort, AreOff, NeverFails}
 use Rattle.eg_laws.specs.Findings.{FindsBeforeOff, FindsFailure, FindsFromOnset, FindsSharply, TellsFlips}
-use Rattle.eg_laws.specs.Showing.{ShowsRun}
+use Rattle.eg_laws.specs.Showing.{ArePermitted, ShowsRun}
 use Rattle.eg_model.specs.Outputs.{running, without_slices, without_level1, without_outputs}
 use Rattle.eg_model.proofs.OutputLaws.{length-bare, runs_disregard_level1}
 use Rattle.eg_laws.proofs.ShowingLaws.{records_show_runs}
@@ -163,7 +162,7 @@ module _ (unit : CoupledUnit) (answers : List PartnerAnswer) (accepted : IsAccep
   shows = record {
     numbered = to AreRows known.numbered;
     answered = rows_show_answers unit answers;
-    permitted = to (All (λ row. row.limit ≡ limit_at s.cal row.drive)) known.permitted;
+    permitted = to (ArePermitted s.cal) known.permitted;
     no_torque = to (All (λ row. row.on ≡ false → row.torque ≡ 0)) known.no_torque;
     closed1 = to (All (λ row. (effects s.fault row.tick).conducts PATH_1 true ≡ true → row.path1 ≡ true)) known.closed1;
     closed2 = to (All (λ row. (effects s.fault row.tick).conducts PATH_2 true ≡ true → row.path2 ≡ true)) known.closed2;

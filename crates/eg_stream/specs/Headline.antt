@@ -2,8 +2,8 @@
 -- every engine. It is said of answers that were taken, and nothing else is asked of the partner. Four laws
 -- hold only if the engine showed one load twice at each tick (`sharp`). Rows stand newest first.
 use Rattle.std.specs.Prelude.{◌≡◌, true, false, List, [], ◌∷◌, All, map, length, None}
-use Rattle.eg_answer.specs.Times.{reaction_of, test_ticks_of, HasLapseBound}
-use Rattle.eg_values.specs.Excess.{ticks_to_confirm, longest_stretch}
+use Rattle.eg_answer.specs.Times.{reaction_of, test_ticks_of}
+use Rattle.eg_values.specs.Excess.{BoundsLapses, ticks_to_confirm, longest_stretch}
 use Rattle.eg_fault.specs.Faults.{effects, IsListed}
 use Rattle.eg_fault.specs.declared.paths.TheConstants.{PATH_1, PATH_2}
 use Rattle.eg_readings.specs.declared.answered.PartnerAnswer.{PartnerAnswer}
@@ -11,10 +11,9 @@ use Rattle.eg_record.specs.declared.row.Row.{Row}
 use Rattle.eg_record.specs.Rows.{AreRows}
 use Rattle.eg_record.specs.Spans.{EachDriveSpan, EachTestSpan}
 use Rattle.eg_model.specs.History.{Setting}
-use Rattle.eg_model.specs.Moments.{limit_at}
 use Rattle.eg_model.specs.Spans.{next}
 use Rattle.eg_model.specs.Rows.{row_of}
-use Rattle.eg_laws.specs.Showing.{HasShown}
+use Rattle.eg_laws.specs.Showing.{HasShown, ArePermitted}
 use Rattle.eg_model.specs.Premises.{IsProperRun}
 use Rattle.eg_model.specs.PowerCycles.{SpansBeginInTurn}
 use Rattle.eg_model.specs.Records.{ReactWithin, RowsReactAtOnce, CutFromOnset, CutOneTickAfter}
@@ -62,9 +61,9 @@ pub record CoupledHeadline (s : Setting) (rows : List Row) (one_load : Type 0) :
   pub finds_failure : EachTestSpan FindsFailure rows
   pub tells_flips : TellsFlips s.fault rows
   -- under lapses excess that stands is cut, where there is a bound
-  pub lapses : HasLapseBound s.cal.rules.torque s.cal.times → IsLapse s.fault →
+  pub lapses : BoundsLapses s.cal → IsLapse s.fault →
       EachDriveSpan (CutStandingExcess s.cal) rows
-  pub short : HasLapseBound s.cal.rules.torque s.cal.times → IsLapse s.fault →
+  pub short : BoundsLapses s.cal → IsLapse s.fault →
       EachDriveSpan (ExcessIsShort s.cal) rows
   -- how long an excess lasts, and how often it may come again
   pub stretches : IsListed s.fault → EachDriveSpan (RowsEndStretches s.cal.rules.threshold
@@ -103,12 +102,13 @@ ShowAnswers (row ∷ rows) (answer ∷ before) =
 ShowAnswers _ _ = ⊥
 
 -- These rows show the run of these answers, as those of the bench show theirs (`ShowsRun` of `eg_model`): the
--- tick of each row is the count of the rows before it; it has what was answered, and the torque that its
--- drive row permits; where the stages are off there is no torque; and the paths do what the fault makes them.
+-- tick of each row is the count of the rows before it; it has what was answered, and the permitted torque by
+-- the drive rows of its span; where the stages are off there is no torque; and the paths do what the fault
+-- makes them.
 pub record ShowsAnswers (s : Setting) (answers : List PartnerAnswer) (rows : List Row) : Type 0 where
   pub numbered : AreRows rows
   pub answered : ShowAnswers rows answers
-  pub permitted : All (λ row. row.limit ≡ limit_at s.cal row.drive) rows
+  pub permitted : ArePermitted s.cal rows
   pub no_torque : All (λ row. row.on ≡ false → row.torque ≡ 0) rows
   pub closed1 : All (λ row. (effects s.fault row.tick).conducts PATH_1 true ≡ true → row.path1 ≡ true) rows
   pub closed2 : All (λ row. (effects s.fault row.tick).conducts PATH_2 true ≡ true → row.path2 ≡ true) rows

@@ -47,8 +47,8 @@ pub fn sweep_faults(alloc: Global, ticks: u32, step: u32) -> Result<Vec<Fault>, 
     Ok(faults)
 }
 
-/// Whether the grid over a run of so many ticks, with a fault of each class at each `step`th of them, has more
-/// than 1,000 runs, or more than 1,000,000 ticks in all.
+/// Whether the grid over a run of so many ticks, with a fault of each class at each `step`th of them, has
+/// more than 1,000 runs, or more than 1,000,000 ticks in all.
 #[tactic(auto, unfolding(crate::specs::Grid::is_too_large, crate::specs::Grid::onset_count))]
 pub fn is_too_large(ticks: u32, step: u32) -> bool
     requires { 1 ≤ step }

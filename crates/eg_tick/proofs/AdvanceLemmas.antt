@@ -6,6 +6,7 @@ use Rattle.std.specs.Option.{option_or}
 use Rattle.eg_base.proofs.ResultLemmas.{at_err}
 use Rattle.eg_num.specs.Drive.{DriveRow, IsDrive}
 use Rattle.eg_plant.specs.Engine.{Shown, KeepsLaws}
+use Rattle.eg_torque.specs.Ramp.{ramped}
 use Rattle.eg_fault.specs.declared.class.Fault.{Fault}
 use Rattle.eg_answer.specs.Periods.{period_of}
 use Rattle.eg_fault.specs.Effects.{asked_at}
@@ -24,7 +25,7 @@ use Rattle.eg_level2.specs.declared.step.Step.{Step}
 use Rattle.eg_model.specs.History.{Setting, Entry, Tick, SpanKind, drives}
 use Rattle.eg_model.specs.Paths.{is_testing, reads_back}
 use Rattle.eg_model.specs.Level1.{last_world}
-use Rattle.eg_model.specs.Moments.{readings_at, limit_at, moments_in}
+use Rattle.eg_model.specs.Moments.{demand_at, readings_at, moments_in}
 use Rattle.eg_model.specs.Spans.{span_kind, kind_at, moments, next, span_ticks}
 use Rattle.eg_model.specs.Premises.{Follows}
 use Rattle.eg_model.specs.SpanHistories.{SpanIsHistory}
@@ -262,6 +263,7 @@ pub record Advance (old new : Kept) (drive : DriveRow) (budgets : List ℕ) (und
   pub are_words : AreWords new.memory.words
   pub tests : new.span.tests ≡ old.span.tests
   pub local : new.span.local ≡ old.span.local + 1
+  pub permitted : new.span.limit ≡ ramped old.cal.rules.fall old.span.limit (demand_at old.cal drive)
   pub passed : new.span.passed ≡ (span_tick.reads_back && not (paths.path1 || paths.path2))
   pub open1 : new.span.open1 ≡ (done.open_path || old.span.open1)
   pub open2 : new.span.open2 ≡ ((judged.confirms || judged.opens) || old.span.open2)
@@ -349,6 +351,10 @@ module _ (old new : Kept) (drive : DriveRow) (budgets : List ℕ) (made : Level2
   unfolding tick_after entry_of
   drive-now = advance.is_drive
 
+  permitted-now : new.span.limit ≡ ramped s.cal.rules.fall old.span.limit (demand_at s.cal x.entry.drive)
+  unfolding tick_after entry_of
+  permitted-now = advance.permitted
+
   pub makes : Makes kind-now s x span-now old new paths span_tick done judged
   makes = record {
     cal = advance.cal;
@@ -366,6 +372,7 @@ module _ (old new : Kept) (drive : DriveRow) (budgets : List ℕ) (made : Level2
     monitor = advance.holds kind-now s x span-now comes;
     tests = advance.tests;
     local = advance.local;
+    permitted = permitted-now;
     passed = advance.passed;
     open1 = advance.open1;
     open2 = advance.open2;
@@ -379,9 +386,9 @@ module _ (old new : Kept) (drive : DriveRow) (budgets : List ℕ) (made : Level2
   }
 
   -- its row is the model's
-  pub row-told : (row : Row) (allowed : ℕ) → allowed ≡ limit_at old.cal drive → row ≡ row_by old.ticks drive allowed new paths span_tick done judged → row ≡ row_of (length h) (next s e h)
+  pub row-told : (row : Row) → row ≡ row_by old.ticks drive new paths span_tick done judged → row ≡ row_of (length h) (next s e h)
   unfolding entry_of
-  row-told row allowed permits is = next_row s e h old new paths span_tick done judged enter makes row allowed permits is
+  row-told row is = next_row s e h old new paths span_tick done judged enter makes row is
 
   pub step-told : (P : ℕ → ℕ → Bool → Option ℕ → Type 0) → P (slice_index old.memory.words 2064) (slice_index old.memory.words 2065) paths.on (effects old.fault old.ticks).held_plate
       → P (world_before s drive h).throttle (world_before s drive h).ignition (next s e h).on (effects_after s h).held_plate

@@ -13,7 +13,7 @@ use Rattle.eg_model.specs.History.{Setting, Entry, Tick, SpanKind, Moment}
 use Rattle.eg_model.specs.Answers.{answers_in, verdicts_in, whole_since_answer}
 use Rattle.eg_model.specs.Level1.{last_world}
 use Rattle.eg_model.specs.Premises.{IsProper, IsProperRun}
-use Rattle.eg_model.specs.Moments.{moments_in}
+use Rattle.eg_model.specs.Moments.{last_limit, moments_in}
 use Rattle.eg_model.specs.Spans.{span_kind, has_passed, moments, span_ticks}
 use Rattle.eg_model.specs.Rows.{first_trap}
 use Rattle.eg_model.specs.Branching.{BeginsFrom, under, AreOneRun}
@@ -77,6 +77,7 @@ module _ (kind : SpanKind) (s : Setting) (fault : Option Fault) where
   span-under span m memory h holds = record {
     kind_is = holds.kind_is;
     local = holds.local;
+    permitted = holds.permitted ∙ ap last_limit (same h);
     level1 = level1-under m memory h holds.level1;
     level2 = level2-under memory h holds.level2;
     latches = subst (HoldsLatches span.open1 span.open2) (same h) holds.latches;

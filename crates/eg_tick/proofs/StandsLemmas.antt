@@ -5,6 +5,7 @@ use Rattle.std.specs.Option.{option_or}
 use Rattle.eg_num.specs.Drive.{DriveRow, IsDrive}
 use Rattle.eg_num.specs.declared.watches.Watches.{Watches}
 use Rattle.eg_plant.specs.Engine.{Shown, KeepsLaws}
+use Rattle.eg_torque.specs.Ramp.{ramped}
 use Rattle.eg_guard.specs.Memory.{AreWords, ShownMemory}
 use Rattle.eg_word.specs.declared.registers.Registers.{Registers}
 use Rattle.eg_word.specs.World.{World, world_of}
@@ -16,7 +17,7 @@ use Rattle.eg_model.specs.Signals.{last_signals}
 use Rattle.eg_model.specs.Paths.{is_testing, reads_back, latch1, latch2, path1_at, path2_at, both_conduct}
 use Rattle.eg_model.specs.Level1.{last_world}
 use Rattle.eg_model.specs.Premises.{IsProperRun}
-use Rattle.eg_model.specs.Moments.{limit_at, moments_in}
+use Rattle.eg_model.specs.Moments.{demand_at, last_limit, limit_at, moments_in}
 use Rattle.eg_model.specs.Spans.{span_kind, has_passed, kind_at, moments, next, span_ticks}
 use Rattle.eg_model.specs.Rows.{row_of, signal_list, first_trap, trap_in}
 use Rattle.eg_model.proofs.TickLemmas.{length-moments_in}
@@ -117,16 +118,15 @@ next-on s e h old paths enter leads =
 
 -- ---- a tick that was made ----
 
--- the row of a tick of this number, at which the torque `allowed` is permitted, by what its parts say, where
--- the controller is `new` after it
-abbrev pub row_by : (tick : ℕ) → DriveRow → (allowed : ℕ) → (new : Kept) → Paths → SpanTick → Step → Judgement → Row
-row_by tick drive allowed new paths span_tick step judgement = record {
+-- the row of a tick of this number, by what its parts say, where the controller is `new` after it
+abbrev pub row_by : (tick : ℕ) → DriveRow → (new : Kept) → Paths → SpanTick → Step → Judgement → Row
+row_by tick drive new paths span_tick step judgement = record {
   tick = tick;
   drive = drive;
   plate = new.shown.position;
   charge = new.shown.load_1;
   torque = new.shown.torque;
-  limit = allowed;
+  limit = new.span.limit;
   path1 = paths.path1;
   path2 = paths.path2;
   on = paths.on;
@@ -167,6 +167,7 @@ pub record Makes (kind : SpanKind) (s : Setting) (x : Tick) (h : List Tick) (old
   pub monitor : HoldsMonitor kind s new.span.monitor (x ∷ h)
   pub tests : new.span.tests ≡ old.span.tests
   pub local : new.span.local ≡ old.span.local + 1
+  pub permitted : new.span.limit ≡ ramped s.cal.rules.fall old.span.limit (demand_at s.cal x.entry.drive)
   pub passed : new.span.passed ≡ (span_tick.reads_back && not (paths.path1 || paths.path2))
   pub open1 : new.span.open1 ≡ (done.open_path || old.span.open1)
   pub open2 : new.span.open2 ≡ ((judgement.confirms || judgement.opens) || old.span.open2)
@@ -197,6 +198,16 @@ module _ (kind : SpanKind) (s : Setting) (x : Tick) (h : List Tick) (old new : K
 
   local-is : old.span.local ≡ length past
   local-is = holds.local ∙ sym (length-moments_in kind s h)
+
+  -- the permitted torque comes down from that of the tick before
+  permitted-is : new.span.limit ≡ m.limit
+  unfolding limit_at
+  permitted-is = makes.permitted ∙ ap (λ before. ramped s.cal.rules.fall before (demand_at s.cal x.entry.drive)) holds.permitted
+      ∙ sym ((fields_in kind s x.effects x.entry past).limit)
+
+  permitted-next : new.span.limit ≡ last_limit (moments_in kind s (x ∷ h))
+  unfolding moments_in last_limit
+  permitted-next = permitted-is
 
   -- ---- the paths, and the start-up test ----
 
@@ -232,6 +243,7 @@ module _ (kind : SpanKind) (s : Setting) (x : Tick) (h : List Tick) (old new : K
   span-next = record {
     kind_is = ap kind_of makes.tests ∙ holds.kind_is;
     local = makes.local ∙ (let local = holds.local in omega arith);
+    permitted = permitted-next;
     level1 = makes.served.0;
     level2 = makes.served.1;
     latches = latches-next;
@@ -250,15 +262,15 @@ module _ (kind : SpanKind) (s : Setting) (x : Tick) (h : List Tick) (old new : K
   answers-are = ap₂ (λ k b. drives k && b) (ap kind_of makes.placed ∙ holds.kind_is) makes.judged.confirms
       ∙ sym ((fields_in kind s x.effects x.entry past).answers)
 
-  pub row-is : (row : Row) (allowed : ℕ) → allowed ≡ limit_at s.cal x.entry.drive → row ≡ row_by old.ticks x.entry.drive allowed new paths span_tick step judgement → row ≡ row_of old.ticks m
+  pub row-is : (row : Row) → row ≡ row_by old.ticks x.entry.drive new paths span_tick step judgement → row ≡ row_of old.ticks m
   unfolding row_of world_of
-  row-is row allowed permits is = is ∙ (λ i. record {
+  row-is row is = is ∙ (λ i. record {
     tick = old.ticks;
     drive = ap (λ (e : Entry). e.drive) entered-is i;
     plate = ap (λ (shown : Shown). shown.position) shown-is i;
     charge = ap (λ (shown : Shown). shown.load_1) shown-is i;
     torque = ap (λ (shown : Shown). shown.torque) shown-is i;
-    limit = (permits ∙ sym ((fields_in kind s x.effects x.entry past).limit)) i;
+    limit = permitted-is i;
     path1 = path1-is i;
     path2 = path2-is i;
     on = on-is i;
@@ -340,7 +352,8 @@ module _ (s : Setting) (e : Entry) (h : List Entry) (old new : Kept) (paths : Pa
     not_lost = makes.not_lost;
   }
 
-  pub next_row : (row : Row) (allowed : ℕ) → allowed ≡ limit_at s.cal e.drive → row ≡ row_by old.ticks e.drive allowed new paths span_tick step judgement → row ≡ row_of (length h) (next s e h)
+  pub next_row : (row : Row) → row ≡ row_by old.ticks e.drive new paths span_tick step judgement →
+      row ≡ row_of (length h) (next s e h)
   unfolding tick_after
-  next_row row allowed permits is = row-is kind s x before old new paths span_tick step judgement makes enter.span row allowed permits is
+  next_row row is = row-is kind s x before old new paths span_tick step judgement makes enter.span row is
       ∙ ap₂ row_of enter.count (sym moment-is)

@@ -21,7 +21,7 @@ use Rattle.eg_model.specs.Answers.{answers_in, verdicts_in}
 use Rattle.eg_model.specs.Paths.{latch1, latch2}
 use Rattle.eg_model.specs.Level1.{last_world}
 use Rattle.eg_model.specs.Premises.{IsProperRun}
-use Rattle.eg_model.specs.Moments.{moments_in}
+use Rattle.eg_model.specs.Moments.{last_limit, moments_in}
 use Rattle.eg_model.specs.Spans.{span_so_far, span_kind, has_passed, moments, ticks, span_ticks}
 use Rattle.eg_model.specs.Rows.{first_trap}
 use Rattle.eg_agree.specs.Standing.{KeepsWords}
@@ -65,6 +65,7 @@ module _ (image new : List ℕ) (fits : length image ≤ 1024) (are : AreWords n
 -- what a span is made of as it begins, whatever it is for
 pub record IsNew (s : Setting) (span : Span) (m : Registers) (memory : List ℕ) : Type 0 where
   pub local : span.local ≡ 0
+  pub limit : span.limit ≡ 0
   pub code : (k : ℕ) → k < 1024 → slice_index memory k ≡ slice_index s.image k
   pub world : world_of m memory ≡ new_world
   pub mirrored : AreMirrored memory
@@ -79,10 +80,11 @@ pub record IsNew (s : Setting) (span : Span) (m : Registers) (memory : List ℕ)
 
 pub new_span : (s : Setting) (span : Span) (m : Registers) (memory : List ℕ) → IsNew s span m memory →
     HoldsSpan (kind_of span.tests) s span m memory []
-unfolding moments_in last_world last_check words_over start latch1 latch2 verdicts_in answers_in
+unfolding moments_in last_limit last_world last_check words_over start latch1 latch2 verdicts_in answers_in
 new_span s span m memory is = record {
   kind_is = refl;
   local = is.local;
+  permitted = is.limit;
   level1 = record { code = is.code; world = is.world };
   level2 = record {
     mirrored = is.mirrored;
@@ -115,6 +117,7 @@ unfolding begun
 begun_span kind s tests old span h m n before cleared memory holds are are_new clears world resets mirrored words fresh begins given period =
     subst (λ (t : Bool). HoldsSpan (kind_of t) s span n memory []) (ap (λ (p : Span). p.tests) begins) (new_span s span n memory (record {
       local = ap (λ (p : Span). p.local) begins;
+      limit = ap (λ (p : Span). p.limit) begins;
       code = λ k within. code-stays is_level2_own level2_leaves cleared memory resets k within
           ∙ code-stays is_level1_own level1_leaves before cleared clears k within ∙ holds.level1.code k within;
       world = ap (λ r. world_of r memory) fresh ∙ world-stays new_registers cleared memory are are_new resets ∙ world;

@@ -4,7 +4,8 @@ use Rattle.std.specs.Prelude.{◌≡◌, ℕ, ◌+◌, ◌-◌, ◌*◌, ◌≤�
 use Rattle.eg_num.specs.Drive.{DriveRow}
 use Rattle.eg_num.specs.Windows.{is_confirmed}
 use Rattle.eg_plant.specs.Engine.{Shown}
-use Rattle.eg_answer.specs.Times.{reaction_of, HasLapseBound, lapse_periods, lapse_bound_of}
+use Rattle.eg_answer.specs.Times.{reaction_of, lapse_periods, lapse_bound_of}
+use Rattle.eg_values.specs.Excess.{BoundsLapses}
 use Rattle.eg_fault.specs.Effects.{Effects}
 use Rattle.eg_fault.specs.Faults.{effects, IsListed}
 use Rattle.eg_word.specs.declared.registers.Trap.{Trap}
@@ -141,7 +142,7 @@ RowReactsAtOnce s c row =
 abbrev pub RowCutsStandingExcess : Setting → Kept → Row → Type 0
 RowCutsStandingExcess s c row =
     (h : List Entry) (more before : List Tick) (periods : ℕ) → DrivesOn s c row h (more ++ before) →
-    HasLapseBound s.cal.rules.torque s.cal.times → IsLapse s.fault →
+    BoundsLapses s.cal → IsLapse s.fault →
     length before ≡ periods * s.cal.times.period →
     Exceeds s (lapse_periods s.cal.rules.torque s.cal.times * s.cal.times.period) before →
     row.on ≡ false
@@ -151,5 +152,5 @@ RowCutsStandingExcess s c row =
 abbrev pub HistoryHasShortExcess : Setting → Kept → Type 0
 HistoryHasShortExcess s c =
     (h : List Entry) → Stands s c h → span_kind (moments s h) ≡ Drive →
-    HasLapseBound s.cal.rules.torque s.cal.times → IsLapse s.fault →
+    BoundsLapses s.cal → IsLapse s.fault →
     (n : ℕ) → Exceeds s n (span_ticks s h) → n < lapse_bound_of s.cal.rules.torque s.cal.times

@@ -13,13 +13,14 @@ kind_from reset passed kind = if reset || passed then kind_of reset else kind
 unfoldable pub ticks_from : (reset passed : Bool) → List Tick → List Tick
 ticks_from reset passed h = if reset || passed then [] else h
 
--- a span as it begins: it has no tick, no latch is open, and the monitoring module has heard and judged
--- nothing
+-- a span as it begins: it has no tick, the permitted torque before it is 0, no latch is open, and the
+-- monitoring module has heard and judged nothing
 unfoldable pub begun : (tests : Bool) → Span → Span
 begun tests span = record {
   tests = tests;
   passed = false;
   local = 0;
+  limit = 0;
   monitor = record span.monitor { verdicts = 0; heard = []; value = 0 };
   open1 = false;
   open2 = false;

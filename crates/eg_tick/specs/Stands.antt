@@ -18,7 +18,7 @@ use Rattle.eg_model.specs.Answers.{answers_in, verdicts_in, whole_since_answer}
 use Rattle.eg_model.specs.Paths.{latch1, latch2}
 use Rattle.eg_model.specs.Level1.{last_world}
 use Rattle.eg_model.specs.Premises.{IsProperRun}
-use Rattle.eg_model.specs.Moments.{moments_in}
+use Rattle.eg_model.specs.Moments.{last_limit, moments_in}
 use Rattle.eg_model.specs.Spans.{span_kind, has_passed, moments, span_ticks}
 use Rattle.eg_model.specs.Rows.{first_trap}
 use Rattle.eg_agree.specs.Standing.{KeepsWords}
@@ -85,11 +85,12 @@ unfoldable pub kind_of : Bool → SpanKind
 kind_of tests = if tests then Test else Drive
 
 -- What a controller keeps of a span, level 1's registers and the words of the memory are what the model says
--- of these ticks, as a span of this kind.
+-- of these ticks, as a span of this kind: so is the permitted torque of the last of them.
 pub record HoldsSpan (kind : SpanKind) (s : Setting) (span : Span) (m : Registers) (memory : List ℕ)
     (h : List Tick) : Type 0 where
   pub kind_is : kind_of span.tests ≡ kind
   pub local : span.local ≡ length h
+  pub permitted : span.limit ≡ last_limit (moments_in kind s h)
   pub level1 : HoldsLevel1 s m memory (moments_in kind s h)
   pub level2 : HoldsLevel2 kind s memory h
   pub latches : HoldsLatches span.open1 span.open2 (moments_in kind s h)

@@ -19,7 +19,7 @@ use crate::board::load_image;
 use crate::monitoring::{judge, question};
 use crate::paths::Paths;
 use crate::plant::{readings, step_engine};
-use crate::row::{Beginning, effective, limit, look_up, row};
+use crate::row::{Beginning, demand, effective, look_up, row};
 use crate::span::{Span, enter};
 use crate::weighing::counters;
 use crate::working::{Level1, Task, work};
@@ -32,6 +32,7 @@ use eg_module::{Monitor, test_ticks};
 use eg_num::Drive;
 use eg_plant::Engine;
 use eg_record::{Counters, Row};
+use eg_torque::ramped;
 use eg_values::Calibration;
 use eg_word::{Program, State, Trap};
 use std::marker::Model;
@@ -204,16 +205,15 @@ impl<E: Engine + Drop, M: Guarded + Drop> Controller<E, M> {
         self.lost = true;
         let (level1, memory) = (&mut self.level1, &mut self.memory);
         enter(&mut self.span, &self.level2, level1, memory, drive.reset())?;
-        let (tick, local) = (self.ticks, self.span.local);
-        let fault = self.fault.as_ref();
+        let (tick, local, fault) = (self.ticks, self.span.local, self.fault.as_ref());
         let (questions, times) = (self.calibration.questions(), self.calibration.times());
-        let brake = self.calibration.brake();
+        let (rules, brake) = (self.calibration.rules(), self.calibration.brake());
         let effective = effective(drive, brake);
-        let lookup = look_up(&self.lookup, self.calibration.rules(), &effective);
+        let lookup = look_up(&self.lookup, rules, &effective);
         let begins = Beginning {
             tick,
             drive: *drive,
-            limit: limit(&lookup, &effective),
+            limit: ramped(rules.fall, self.span.limit, demand(&lookup, &effective)),
             span_tick: self.span.next_tick(self.test_ticks),
             paths: Paths::at(fault, tick, &self.span),
         };
@@ -233,7 +233,8 @@ impl<E: Engine + Drop, M: Guarded + Drop> Controller<E, M> {
         let step = work(&self.level2, fault, &task, level1, memory)?;
         let (monitor, answer) = (&mut self.span.monitor, step.answer);
         let judged = judge(monitor, questions, fault, tick, local, asked, answer);
-        self.span.note(step.open_path, judged, begins.passes());
+        self.span
+            .note(begins.limit, step.open_path, judged, begins.passes());
         note_trap(&mut self.trap, self.level1.host.registers.state, tick);
         self.ticks += 1;
         (self.lost, self.lookup) = (false, lookup);

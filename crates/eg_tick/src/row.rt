@@ -26,8 +26,8 @@ use eg_num::{Drive, Watches};
 use eg_plant::Engine;
 use eg_record::Row;
 
-/// What a tick begins with: its number, what the drive trace gives to it, what that permits, its place in its
-/// span, and the paths.
+/// What a tick begins with: its number, what the drive trace gives to it, the permitted torque in tenths of
+/// Nm, its place in its span, and the paths.
 #[derive(Clone, Copy)]
 pub(crate) struct Beginning {
     pub(crate) tick: u32,
@@ -94,13 +94,13 @@ pub(crate) fn look_up(last: &Lookup, rules: &Rules, drive: &Drive) -> Lookup
     }
 }
 
-/// The torque that a drive row permits, in tenths of Nm (docs/CONCEPT.md, "Torque"), by what the permit table
-/// of the calibration says of it.
+/// The torque that the driver demands by a drive row, in tenths of Nm (docs/CONCEPT.md, "Torque"), by what
+/// the permit table of the calibration says of it.
 #[tactic(auto, unfolding(eg_torque::specs::Permit::drive_permits))]
-pub(crate) fn limit(lookup: &Lookup, drive: &Drive) -> u16
+pub(crate) fn demand(lookup: &Lookup, drive: &Drive) -> u16
     requires pedal { lookup.now.pedal ≡ drive.now.pedal }
     requires speed { lookup.now.speed ≡ drive.now.speed }
-    ensures limit { (cal : CalibrationParts)
+    ensures demand { (cal : CalibrationParts)
         → lookup.now.torque ≡ grid_at cal.rules.permit lookup.now.pedal lookup.now.speed
         → result ≡ drive_permits cal.rules.permit drive.now }
 {

@@ -2,7 +2,8 @@
 ghost use Rattle.std.specs.Prelude.{◌≡◌, ◌≤◌, ◌<◌, false, None, All, reverse, length, IfOk, OnOk};
 ghost use Rattle.std.specs.Option.{option_copied};
 ghost use Rattle.eg_guard.specs.declared.regions.TheConstants.{DATA as CODE_END};
-ghost use Rattle.eg_answer.specs.Times.{HasLapseBound, reaction_of, test_ticks_of};
+ghost use Rattle.eg_answer.specs.Times.{reaction_of, test_ticks_of};
+ghost use Rattle.eg_values.specs.Excess.{BoundsLapses};
 ghost use Rattle.eg_fault.specs.Faults.{IsListed};
 ghost use Rattle.eg_record.specs.Rows.{AreRows};
 ghost use Rattle.eg_record.specs.Spans.{EachDriveSpan, EachTestSpan};
@@ -75,10 +76,10 @@ pub fn run_one(
         calibration.now.rules.threshold) (reverse made.rows)) }
     // Under lapses excess that stands is cut, and each stretch of excess is shorter than the bound for
     // lapses.
-    ensures lapses { HasLapseBound calibration.now.rules.torque calibration.now.times →
+    ensures lapses { BoundsLapses calibration.now →
         IsLapse (option_copied fault.entry) → IfOk result (λ made.
         EachDriveSpan (CutStandingExcess calibration.now) (reverse made.rows)) }
-    ensures short { HasLapseBound calibration.now.rules.torque calibration.now.times →
+    ensures short { BoundsLapses calibration.now →
         IsLapse (option_copied fault.entry) → IfOk result (λ made.
         EachDriveSpan (ExcessIsShort calibration.now) (reverse made.rows)) }
     // A test span begins at each reset, else a drive span at the first tick and exactly if a test was

@@ -32,6 +32,8 @@ pub(crate) struct Span {
     pub(crate) passed: bool,
     /// How many ticks of it were made.
     pub(crate) local: u32,
+    /// The permitted torque at its last tick, in tenths of Nm.
+    pub(crate) limit: u16,
     /// The monitoring module.
     pub(crate) monitor: Monitor,
     /// Whether the latch of path 1 is open.
@@ -62,6 +64,7 @@ impl Span {
           tests = false;
           passed = false;
           local = 0;
+          limit = 0;
           monitor = monitor;
           open1 = false;
           open2 = false;
@@ -71,18 +74,21 @@ impl Span {
             tests: false,
             passed: false,
             local: 0,
+            limit: 0,
             monitor,
             open1: false,
             open2: false,
         }
     }
 
-    /// A span begins in its place, with the same monitoring module: it has no tick, and no latch is open.
+    /// A span begins in its place, with the same monitoring module: it has no tick, the permitted torque
+    /// before it is 0, and no latch is open.
     fn start(&mut self, tests: bool)
         ensures { self.new ≡ record self.old {
           tests = tests;
           passed = false;
           local = 0;
+          limit = 0;
           open1 = false;
           open2 = false;
         } }
@@ -90,6 +96,7 @@ impl Span {
         self.tests = tests;
         self.passed = false;
         self.local = 0;
+        self.limit = 0;
         self.open1 = false;
         self.open2 = false;
     }
@@ -161,13 +168,14 @@ impl Span {
         }
     }
 
-    /// One tick more: at it path 1 was ordered open or not, the monitoring module judged so, and a start-up
-    /// test was passed or not. No latch closes.
-    pub(crate) fn note(&mut self, open_path: bool, judged: Judgement, passes: bool)
+    /// One tick more: at it the permitted torque was `limit`, path 1 was ordered open or not, the monitoring
+    /// module judged so, and a start-up test was passed or not. No latch closes.
+    pub(crate) fn note(&mut self, limit: u16, open_path: bool, judged: Judgement, passes: bool)
         requires { self.old.local < 20000 }
         ensures { self.new ≡ record self.old {
           passed = passes;
           local = self.old.local + 1;
+          limit = limit;
           open1 = open_path || self.old.open1;
           open2 = (judged.confirms || judged.opens) || self.old.open2;
         } }
@@ -176,6 +184,7 @@ impl Span {
         self.open2 = either(either(judged.confirms, judged.opens), self.open2);
         self.passed = passes;
         self.local += 1;
+        self.limit = limit;
     }
 }
 

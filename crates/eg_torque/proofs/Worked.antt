@@ -1,8 +1,10 @@
--- Worked numbers of a small permit table, of the estimate and of the excess, computed from the definitions.
+-- Worked numbers of a small permit table, of the ramp, of the estimate and of the excess, computed from the definitions.
 use Rattle.std.proofs.Common.{◌≡◌, [], ◌∷◌, true, false, refl}
 use Rattle.eg_num.specs.Arithmetic.{estimate}
 use Rattle.eg_num.specs.Interpolation.{Grid, grid_at, value_at}
 use Rattle.eg_torque.specs.Permit.{permitted}
+use Rattle.eg_torque.specs.Ramp.{ramped}
+use Rattle.eg_torque.specs.declared.ramp.TheConstants.{NO_RAMP}
 use Rattle.eg_torque.specs.Excess.{is_excess}
 
 -- pedals 0, 500, 1000; speeds 800, 3000, 6000
@@ -55,6 +57,35 @@ raised = refl
 not_raised : permitted small 750 1900 800 1400 ≡ 1500
 unfolding permitted value_at
 not_raised = refl
+
+-- down the ramp, 50 from 1000 to a demand of 200
+down_the_ramp : ramped 50 1000 200 ≡ 950
+unfolding ramped
+down_the_ramp = refl
+
+-- at the first tick of a span, before which it is 0, the demand itself
+first_tick : ramped 50 0 200 ≡ 200
+unfolding ramped
+first_tick = refl
+
+-- without a ramp the demand, also where 65535 was permitted before
+without_ramp : ramped NO_RAMP 65535 200 ≡ 200
+unfolding ramped
+without_ramp = refl
+
+-- a fall of 0 keeps what was permitted, and one of 10000 gives the demand where that is more
+kept : ramped 0 1000 200 ≡ 1000
+unfolding ramped
+kept = refl
+
+fallen_at_once : ramped 10000 1000 200 ≡ 200
+unfolding ramped
+fallen_at_once = refl
+
+-- a demand above what was permitted is permitted at once
+demand_above : ramped 50 1000 1800 ≡ 1800
+unfolding ramped
+demand_above = refl
 
 -- the estimate is rounded up, and held in one word
 whole_estimate : estimate 2500 160 ≡ 400

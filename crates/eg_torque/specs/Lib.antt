@@ -1,4 +1,5 @@
 pub mod Permit
+pub mod Ramp
 pub mod Excess
 pub use Rattle.eg_num.specs.Arithmetic
 pub use Rattle.eg_num.specs.Interpolation

@@ -3,7 +3,9 @@
 #![tactic(auto)]
 
 mod permit;
+mod ramp;
 mod torque;
 
 pub use permit::{Permit, permits_rise};
+pub use ramp::{NO_RAMP, ramped};
 pub use torque::{actual, excess};

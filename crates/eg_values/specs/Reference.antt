@@ -2,6 +2,7 @@
 -- questions with their answers, and a brake that doesn't count.
 use Rattle.std.specs.Prelude.{ℕ, false, List, [], ◌∷◌}
 use Rattle.eg_num.specs.Interpolation.{Grid}
+use Rattle.eg_torque.specs.declared.ramp.TheConstants.{NO_RAMP}
 use Rattle.eg_plant.specs.PlantParts.{PlantParts}
 use Rattle.eg_answer.specs.Times.{TimeParts}
 use Rattle.eg_answer.specs.declared.rules.Rules.{Rules}
@@ -16,11 +17,12 @@ reference_permit = record {
   values = 200 ∷ 100 ∷ 0 ∷ 1000 ∷ 1200 ∷ 900 ∷ 2000 ∷ 2400 ∷ 1800 ∷ [];
 }
 
--- the rules of level 2: permit table, `kt`, threshold, the tolerances of pedal, plate, load and speed, and
--- the weights of the pairs and of the torque
+-- the rules of level 2: permit table, no ramp, `kt`, threshold, the tolerances of pedal, plate, load and
+-- speed, and the weights of the pairs and of the torque
 abbrev pub reference_rules : Rules
 reference_rules = record {
   permit = reference_permit;
+  fall = NO_RAMP;
   kt = 2500;
   threshold = 200;
   tolerances = 50 ∷ 50 ∷ 50 ∷ 50 ∷ [];

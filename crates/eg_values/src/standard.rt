@@ -10,7 +10,7 @@ use eg_answer::{Question, Questions, Rules, TestRow, Times};
 use eg_num::{Axis, Table1, Table2, Weights};
 use eg_plant::PlantData;
 use eg_sensor::Readings;
-use eg_torque::Permit;
+use eg_torque::{NO_RAMP, Permit};
 
 /// The reference calibration (docs/CONCEPT.md, "Calibration"). It is an accepted one, and the brake doesn't
 /// count in it. It takes no memory.
@@ -70,6 +70,7 @@ fn rules() -> Rules
 {
     Rules {
         permit: permit(),
+        fall: NO_RAMP,
         kt: 2500,
         threshold: 200,
         tolerances: [50; 4],

@@ -103,6 +103,7 @@ fn copy_of_span(span: &Span) -> Span
         tests: span.tests,
         passed: span.passed,
         local: span.local,
+        limit: span.limit,
         monitor: span.monitor.copy(),
         open1: span.open1,
         open2: span.open2,

@@ -10,7 +10,15 @@ returns-in-1 g c = rw (c.used.ensures, c.is_set.ensures, c.word.ensures, c.readi
 pub returns-in-2 : goal.returns-in-2
 unfolding signal_of named
 returns-in-2 g c =
-    rw (c.permit.ensures, c.is_set-tripped.ensures, c.word-in-2.ensures, c.word-in-2-2.ensures, c.readings-in-2.ensures, c.in-2.is) refl
+    rw (
+      c.permit.ensures,
+      c.is_set-tripped.ensures,
+      c.word-in-2.ensures,
+      c.word-before.ensures,
+      c.word-pedal.ensures,
+      c.readings-in-2.ensures,
+      c.in-2.is,
+    ) refl
 
 pub returns-in-4 : goal.returns-in-4
 unfolding signal_of named

@@ -12,6 +12,7 @@ returns-clause-begun g c =
       tests = c.args.tests;
       passed = false;
       local = 0;
+      limit = 0;
       monitor = record (c.start.ensures i).monitor { verdicts = 0; heard = []; value = 0 };
       open1 = false;
       open2 = false;

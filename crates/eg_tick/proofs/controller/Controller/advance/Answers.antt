@@ -1,16 +1,17 @@
-use Rattle.std.proofs.Common.{◌≡◌, ◌∙◌, refl, sym, ap, subst, ◌+◌, ◌<◌, Some, None, List, ◌∷◌, length, slice_index, true, false, arith, rules}
+use Rattle.std.proofs.Common.{◌≡◌, ◌∙◌, refl, sym, ap, ap₂, subst, ◌+◌, ◌<◌, Some, None, List, ◌∷◌, length, slice_index, true, false, arith, rules}
 use Rattle.std.specs.Option.{option_copied}
 use Rattle.eg_answer.specs.declared.rules.Rules.{Rules}
-use Rattle.eg_num.specs.Interpolation.{grid_at}
 use Rattle.eg_torque.specs.Permit.{drive_permits}
+use Rattle.eg_torque.specs.Ramp.{ramped}
 use Rattle.eg_fault.specs.Effects.{asked_at}
+use Rattle.eg_record.specs.declared.row.Row.{Row}
 use Rattle.eg_agree.specs.Doings.{phase_at}
 use Rattle.eg_fault.specs.Faults.{effects}
 use Rattle.eg_guard.specs.Memory.{AreWords}
 use Rattle.eg_level2.specs.Words.{words_of, AreWithin}
 use Rattle.eg_level2.specs.Inputs.{Level2Parts, IsLookup}
 use Rattle.eg_model.specs.History.{Setting, Entry}
-use Rattle.eg_model.specs.Moments.{limit_at}
+use Rattle.eg_model.specs.Moments.{demand_at}
 use Rattle.eg_model.specs.Spans.{next}
 use Rattle.eg_model.specs.Rows.{row_of}
 use Rattle.eg_tick.specs.Kept.{Kept}
@@ -18,7 +19,7 @@ use Rattle.eg_tick.specs.Stands.{kind_of, HoldsMonitor, Stands, IsController}
 use Rattle.eg_tick.specs.declared.span.Span.{Span}
 use Rattle.eg_tick.specs.Advancing.{effects_after, entry_of, world_before}
 use Rattle.eg_tick.specs.declared.working.Task.{Task}
-use Rattle.eg_tick.proofs.StandsLemmas.{Enters, entered, enters, next_stands}
+use Rattle.eg_tick.proofs.StandsLemmas.{Enters, entered, enters, row_by, next_stands}
 use Rattle.eg_tick.proofs.AdvanceLemmas.{of_setting, held-within, within, few-in, period-in, later-in, stepped, unmade, Advance, makes, row-told, step-told}
 use Rattle.eg_tick.proofs.controller.Controller.advance.Given.{Over}
 use Rattle.eg_tick.proofs.controller.Controller.advance.Goals as goal
@@ -113,6 +114,24 @@ task g c = record {
 are_words : (g : Over) (c : goal.After-row g) → AreWords (g.M.Guarded.shows c.work.new.memory).words
 are_words g c = c.work.ensures.keeps.are_words (c.enter.ensures.keeps.are_words (c.self.invariant.keeps.stands c.if-self.false).2.are_words)
 
+-- what was looked up stands for what the calibration permits
+looked_up : (g : Over) (c : goal.After-row g) → IsLookup (old g c).cal.rules c.look_up-lookup.result
+looked_up g c = subst (λ (rules : Rules). IsLookup rules c.look_up-lookup.result) c.rules-rules.ensures.rules
+    c.look_up-lookup.ensures.lookup
+
+-- what the driver demands, by what the permit table says of the effective drive row
+demands : (g : Over) (c : goal.After-row g) → c.demand.result ≡ demand_at (old g c).cal c.args.drive.now
+unfolding demand_at
+demands g c = c.demand.ensures.demand (old g c).cal (looked_up g c)
+    ∙ ap (drive_permits (old g c).cal.rules.permit)
+    (c.effective-effective.ensures (old g c).cal (sym c.brake-brake.ensures.brake))
+
+-- the permitted torque: that, or down the ramp from the tick before in the span
+permitted : (g : Over) (c : goal.After-row g) →
+    c.ramped.result ≡ ramped (old g c).cal.rules.fall (old g c).span.limit (demand_at (old g c).cal c.args.drive.now)
+permitted g c = c.ramped.ensures ∙ ap₂ (λ (rules : Rules) demanded. ramped rules.fall (old g c).span.limit demanded)
+    c.rules-rules.ensures.rules (demands g c)
+
 advance : (g : Over) (c : goal.After-row g) → Advance (old g c) (new g c) c.args.drive.now c.args.slices.now c.self.inside.fault c.self.inside.level2
     c.at.result c.next_tick.result (task g c) c.in_ok-step.step c.judge-judged.result
 advance g c =
@@ -153,6 +172,7 @@ advance g c =
       are_words = are_words g c;
       tests = ap (λ (span : Span). span.tests) noted;
       local = ap (λ (span : Span). span.local) noted;
+      permitted = ap (λ (span : Span). span.limit) noted ∙ permitted g c;
       passed = ap (λ (span : Span). span.passed) noted ∙ c.passes.ensures;
       open1 = ap (λ (span : Span). span.open1) noted;
       open2 = ap (λ (span : Span). span.open2) noted;
@@ -162,6 +182,16 @@ advance g c =
       trap = c.note_trap.ensures;
       not_lost = refl;
     })
+
+-- the row by what the parts say
+abbrev told : (g : Over) → goal.After-row g → Row
+told g c = row_by c.self.inside.ticks c.args.drive.now (new g c) c.at.result c.next_tick.result c.in_ok-step.step
+    c.judge-judged.result
+
+row-by : (g : Over) (c : goal.After-row g) → c.row.result ≡ told g c
+row-by g c = c.row.ensures ∙ (λ i. record (told g c) {
+  limit = ap (λ (span : Span). span.limit) (sym c.note.ensures) i;
+})
 
 abbrev entry : (g : Over) → goal.After-row g → Entry
 entry g c = entry_of c.args.drive.now c.args.slices.now (g.E.Engine.shows c.step_engine.new.engine)
@@ -206,10 +236,6 @@ steps g c =
     (subst (λ o. g.E.Engine.steps c.self.inside.engine (slice_index words 2064) (slice_index words 2065) c.at.result.on o c.step_engine.new.engine) held
     c.step_engine.ensures.steps)
 
--- what was looked up stands for what the calibration permits
-looked_up : (g : Over) (c : goal.After-row g) → IsLookup c.self.inside.calibration.rules c.look_up-lookup.result
-looked_up g c = subst (λ (rules : Rules). IsLookup rules c.look_up-lookup.result) c.rules.ensures.rules c.look_up-lookup.ensures.lookup
-
 pub invariant_of-self-2 : goal.invariant_of-self-2
 invariant_of-self-2 g c = record {
   parts = c.self.invariant.parts;
@@ -219,19 +245,12 @@ invariant_of-self-2 g c = record {
   keeps = still g c;
 }
 
--- what is permitted, by what the permit table says of the effective drive row
-permits : (g : Over) (c : goal.After-row g) → c.look_up-lookup.result.torque ≡ grid_at (old g c).cal.rules.permit c.look_up-lookup.result.pedal c.look_up-lookup.result.speed
-    → c.limit.result ≡ limit_at (old g c).cal c.args.drive.now
-unfolding limit_at
-permits g c looked = c.limit.ensures.limit (old g c).cal looked
-    ∙ ap (drive_permits (old g c).cal.rules.permit) (c.effective-effective.ensures (old g c).cal (sym c.brake-brake.ensures.brake))
-
 pub returns : goal.returns
 returns g c = record {
   stands = stood g c;
   row = λ s h stands. of_setting (λ t. c.row.result ≡ row_of (length h) (next t (entry g c) h)) (before g c) h
-      (λ image so. row-told (old g c) (new g c) _ _ _ _ _ (task g c) _ _ (advance g c) image h (enter g c _ h so) c.row.result c.limit.result
-      (permits g c (looked_up g c)) c.row.ensures)
+      (λ image so. row-told (old g c) (new g c) _ _ _ _ _ (task g c) _ _ (advance g c) image h (enter g c _ h so)
+      c.row.result (row-by g c))
       s (was g c s h stands);
   engine = λ s h stands. of_setting (λ t. g.E.Engine.steps c.args.self.now.engine (world_before t c.args.drive.now h).throttle (world_before t c.args.drive.now h).ignition
       (next t (entry g c) h).on (effects_after t h).held_plate c.step_engine.new.engine) (before g c) h

@@ -51,6 +51,7 @@ made g c =
     let monitor : c.new-span.result.monitor ≡ c.new-monitor.result = ap (λ (p : Span). p.monitor) span in
     new_stands _ _ refl refl refl are_words (ap (λ (p : Span). p.tests) span) (ap (λ (p : Span). p.passed) span) (record {
       local = ap (λ (p : Span). p.local) span;
+      limit = ap (λ (p : Span). p.limit) span;
       code = made_code image loaded made c.requires.image (loaded_words g c) written c.reset.ensures.outside;
       world =
           ap (λ m. world_of m made) c.new.ensures
