@@ -26,6 +26,7 @@ pub mod BurstRuns
 pub mod PeakLaws
 pub mod RampLaws
 pub mod LimitLaws
+pub mod WeightLimitLaws
 pub mod WordLaws
 pub mod SeenExcess
 pub mod PathLaws

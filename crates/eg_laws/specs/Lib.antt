@@ -12,4 +12,5 @@ pub mod FaultyBursts
 pub mod Seeing
 pub mod Paths
 pub mod Availability
+pub mod WeightLimits
 pub mod Examples

@@ -20,6 +20,7 @@ mod ramps;
 mod records;
 mod seeing;
 mod stretches;
+mod weight_limits;
 
 pub use availability::{far_misses_never_cut, records_stay_available};
 pub use bursts::{
@@ -39,3 +40,4 @@ pub use records::{
 };
 pub use seeing::{premises_are_needed, seen_excess_is_cut};
 pub use stretches::{excess_ends, longest_stretch_run, records_end_excess};
+pub use weight_limits::records_disregard_limits;

@@ -2,6 +2,7 @@ pub mod NameLemmas
 pub mod InputsLemmas
 pub mod SurplusLaws
 pub mod MarginLaws
+pub mod LeastLimitLaws
 pub mod HeadlineLemmas
 pub mod PlayLemmas
 pub mod SweepLemmas

@@ -68,15 +68,15 @@ counted_first w b bits positive at = elim (cases_Bool (is_confirmed w bits)) [
 -- ---- what a debouncer weighs after a tick of a span, and whether its watch is found there ----
 
 module _ (s : Setting) where
-  abbrev tick_in : SpanKind → Effects → Entry → List Tick → Moment
+  abbrev pub tick_in : SpanKind → Effects → Entry → List Tick → Moment
   tick_in kind x e before = moment_in kind s x e (moments_in kind s before)
 
-  abbrev ticks_in : SpanKind → Effects → Entry → List Tick → List Moment
+  abbrev pub ticks_in : SpanKind → Effects → Entry → List Tick → List Moment
   ticks_in kind x e before = tick_in kind x e before ∷ moments_in kind s before
 
   -- A debouncer begins at 0 and stays within its limit. It is at the limit where its watch is found; and where it
   -- comes there in a drive span, its watch is found.
-  record IsDebouncer (limit : ℕ) (name : Watch) (weight : Counters → ℕ) : Type 0 where
+  pub record IsDebouncer (limit : ℕ) (name : Watch) (weight : Counters → ℕ) : Type 0 where
     positive : 1 ≤ limit
     none : weight (counters_in s.cal []) ≡ 0
     within : (span : List Moment) → weight (counters_in s.cal span) ≤ limit
@@ -263,7 +263,7 @@ module _ (s : Setting) where
     unfolding counters_in is_found bit_of found_by
     speed = of_bit s.cal.rules.pair accepted.pair.3 speed_bit watch.Speed (λ c. c.speed) (λ span. refl) (λ kind x e past. (fields_in kind s x e past).pair Speed)
 
-    torque : IsDebouncer s.cal.rules.torque.limit watch.Torque (λ c. c.torque)
+    pub torque : IsDebouncer s.cal.rules.torque.limit watch.Torque (λ c. c.torque)
     unfolding counters_in is_found
     torque = of_bit s.cal.rules.torque accepted.torque.3 torque_bit watch.Torque (λ c. c.torque) (λ span. refl) (λ kind x e past. (fields_in kind s x e past).torque)
 
@@ -279,10 +279,10 @@ module _ (s : Setting) where
 
   -- ---- the rows of a run ----
 
-  abbrev rows : List Entry → List Row
+  abbrev pub rows : List Entry → List Row
   rows h = rows_of (moments s h)
 
-  abbrev weighed : List Entry → List Weighed
+  abbrev pub weighed : List Entry → List Weighed
   weighed h = weighed_of s.cal (moments s h)
 
   rows-are : (ms : List Moment) → rows_in (weighed_of s.cal ms) ≡ rows_of ms
@@ -351,10 +351,10 @@ module _ (s : Setting) where
   -- ---- a watch over a run ----
 
   module _ (limit : ℕ) (name : Watch) (weight : Counters → ℕ) (d : IsDebouncer limit name weight) where
-    abbrev at : List Entry → ℕ
+    abbrev pub at : List Entry → ℕ
     at h = weight (counters_in s.cal (span_so_far (moments s h)))
 
-    span-next : (e : Entry) (h : List Entry) → span_so_far (moments s (e ∷ h)) ≡ next s e h ∷ before_at e.drive (moments s h)
+    pub span-next : (e : Entry) (h : List Entry) → span_so_far (moments s (e ∷ h)) ≡ next s e h ∷ before_at e.drive (moments s h)
     unfolding moments next
     span-next e h = span_so_far-next s e (moments s h)
 
@@ -369,14 +369,14 @@ module _ (s : Setting) where
         ≡ (tick_in (kind_at e.drive (moments s h)) (effects s.fault (length h)) e (ticks_before s e h)).found
     found-next e h = ap (λ (m : Moment). m.found) (continues s e h).moment_is
 
-    now_found : (e : Entry) (h : List Entry) → is_found (next s e h).found name ≡ true →
+    pub now_found : (e : Entry) (h : List Entry) → is_found (next s e h).found name ≡ true →
         (drives (span_kind (moments s (e ∷ h))) ≡ true) × (at (e ∷ h) ≡ limit)
     now_found e h found =
         let here = d.found (kind_at e.drive (moments s h)) (effects s.fault (length h)) e (ticks_before s e h)
         (ap (λ f. is_found f name) (sym (found-next e h)) ∙ found) in
         (ap drives (kind-next s e h) ∙ here.0, at-next e h ∙ here.1)
 
-    row_found : (e : Entry) (h : List Entry) → is_found (next s e h).found name ≡ true → IsFoundIn name (rows (e ∷ h))
+    pub row_found : (e : Entry) (h : List Entry) → is_found (next s e h).found name ≡ true → IsFoundIn name (rows (e ∷ h))
     unfolding next
     row_found e h found = unfold moments rows_of in (
       row_of (length (moments s h)) (next_after s e (moments s h)),
@@ -384,17 +384,17 @@ module _ (s : Setting) where
       (unfold row_of in found),
     )
 
-    found_row : (e : Entry) (h : List Entry) (row : Row) → row_of (length (moments s h)) (next_after s e (moments s h)) ≡ row →
+    pub found_row : (e : Entry) (h : List Entry) (row : Row) → row_of (length (moments s h)) (next_after s e (moments s h)) ≡ row →
         is_found row.found name ≡ true → is_found (next s e h).found name ≡ true
     unfolding next row_of
     found_row e h row same found = ap (λ (r : Row). is_found r.found name) same ∙ found
 
-    row_earlier : (e : Entry) (h : List Entry) → IsFoundIn name (rows h) → IsFoundIn name (rows (e ∷ h))
+    pub row_earlier : (e : Entry) (h : List Entry) → IsFoundIn name (rows h) → IsFoundIn name (rows (e ∷ h))
     row_earlier e h found = unfold moments rows_of in
         (found.0, Contains-tail (row_of (length (moments s h)) (next_after s e (moments s h))) (rows h) found.0 found.1, found.2)
 
     -- at the limit in a drive span: the watch is found
-    limit_found : (h : List Entry) → drives (span_kind (moments s h)) ≡ true → at h ≡ limit → IsFoundIn name (rows h)
+    pub limit_found : (h : List Entry) → drives (span_kind (moments s h)) ≡ true → at h ≡ limit → IsFoundIn name (rows h)
     limit_found [] driven is = absurd (let none : at [] ≡ 0 = (unfold moments span_so_far in d.none) in let some = d.positive in omega (arith, none, some, is))
     limit_found (e ∷ h) driven is = elim (d.reached (kind_at e.drive (moments s h)) (effects s.fault (length h)) e (ticks_before s e h)
         (ap drives (sym (kind-next s e h)) ∙ driven) (sym (at-next e h) ∙ is)) [
@@ -413,10 +413,10 @@ module _ (s : Setting) where
               (ap (λ past. weight (counters_in s.cal past)) (sym (before-goes_on e.drive (moments s h) goes_on)) ∙ there)
         ]
 
-    greatest : List Entry → ℕ
+    unfoldable pub greatest : List Entry → ℕ
     greatest h = greatest_weight weight (weighed h)
 
-    greatest-none : greatest [] ≡ 0
+    pub greatest-none : greatest [] ≡ 0
     unfolding greatest greatest_weight weighed_of moments weighed_where greatest_of
     greatest-none = refl
 
@@ -436,7 +436,7 @@ module _ (s : Setting) where
         go true = refl
         go false = refl
 
-    greatest-next : (e : Entry) (h : List Entry) → greatest (e ∷ h) ≡ (if drives (span_kind (moments s (e ∷ h))) then max (at (e ∷ h)) (greatest h) else greatest h)
+    pub greatest-next : (e : Entry) (h : List Entry) → greatest (e ∷ h) ≡ (if drives (span_kind (moments s (e ∷ h))) then max (at (e ∷ h)) (greatest h) else greatest h)
     greatest-next e h = greatest-row e h ∙ ap (λ (b : Bool). if b then max (at (e ∷ h)) (greatest h) else greatest h)
         (ap is_driven (rows-are (moments s (e ∷ h))) ∙ (unfold Driven in driven-is e h))
 
@@ -480,7 +480,7 @@ module _ (s : Setting) where
         go true rest = let here = d.within (span_so_far (moments s (e ∷ h))) in omega (arith, here, rest)
         go false rest = rest
 
-    is_weight : (h : List Entry) → IsWeightOf name limit (rows h) (greatest h)
+    pub is_weight : (h : List Entry) → IsWeightOf name limit (rows h) (greatest h)
     is_weight h = record { within = greatest-within h; found = (greatest_found h, found_greatest h) }
 
   -- ---- all six, and the surplus ----

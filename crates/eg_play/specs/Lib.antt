@@ -2,6 +2,7 @@ pub mod Files
 pub mod Inputs
 pub mod Headline
 pub mod InWords
+pub mod LeastLimits
 pub mod Sweeping
 pub mod Texts
 pub mod Ends

@@ -9,6 +9,7 @@ mod campaign;
 mod end;
 mod input;
 mod inputs;
+mod least_limits;
 mod named;
 mod report;
 mod rows;
@@ -20,6 +21,7 @@ mod traces;
 
 pub use end::End;
 pub use inputs::inputs_of;
+pub use least_limits::margins_tell_limits;
 pub use named::{NamedRun, input_named, input_swept, undriven_named};
 pub use report::{put_record, put_told};
 pub use sweep_table::put_table;
