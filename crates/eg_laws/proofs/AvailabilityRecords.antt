@@ -1,5 +1,5 @@
 -- Misses that are far apart never cut: by the rows of a history, and of the record of a run on the bench.
-use Rattle.std.proofs.Common.{append_assoc, ◌≡◌, ℕ, suc, ◌+◌, ◌≤◌, length, length-append, arith, Bool, true, false, not, ◌||◌, List, [], ◌∷◌, ◌++◌, All, map, refl, sym, ap, ap₂, ◌∙◌, subst}
+use Rattle.std.proofs.Common.{append_assoc, ◌≡◌, ℕ, suc, ◌+◌, ◌≤◌, length, length-append, arith, Bool, true, false, not, List, [], ◌∷◌, ◌++◌, All, map, refl, sym, ap, ap₂, ◌∙◌, subst}
 use Rattle.std.specs.List.{list_any}
 use Rattle.std.proofs.lemmas.List.Elements.{All-head, All-tail}
 use Rattle.std.proofs.lemmas.Bool.{true≢false, false_from_ne_true, or_from, or_parts}
@@ -15,30 +15,17 @@ use Rattle.eg_model.specs.Moments.{moment, moments_of}
 use Rattle.eg_model.specs.Rows.{row_of}
 use Rattle.eg_model.specs.Premises.{AreProper, Follows, full_excesses}
 use Rattle.eg_model.specs.Engines.{BenchEngine, KeepsBenchLaws, IsOneLoad, ShowsOneLoad}
-use Rattle.eg_laws.specs.Availability.{IsSpacedLapse, trips, has_tripped, StaysAvailable, AvailableIfSpaced, RecordsStayAvailable}
-use Rattle.eg_model.proofs.TickLemmas.{length-moments, tripped-cons, tripped_on, fields}
+use Rattle.eg_laws.specs.Availability.{IsSpacedLapse, has_tripped, StaysAvailable, AvailableIfSpaced, RecordsStayAvailable}
+use Rattle.eg_model.proofs.TickLemmas.{length-moments, tripped_on, fields}
 use Rattle.eg_model.proofs.Silence.{latch2-cons}
-use Rattle.eg_model.proofs.SpanRows.{follows-end, rows_after, length-rows_after, SpanRows, RowAfter, row_on, all_rows, LastTick, last_tick, bits_after, full_unnumbered}
+use Rattle.eg_model.proofs.SpanRows.{follows-end, length-rows_after, SpanRows, RowAfter, row_on, all_rows, LastTick, last_tick, bits_after, full_unnumbered}
 use Rattle.eg_model.proofs.RecordSpans.{SpanTo}
 use Rattle.eg_model.proofs.RecordLaws.{each_drive, proper_span, loads_in}
+use Rattle.eg_laws.proofs.TripRows.{tripped_rows, rows-cons}
 use Rattle.eg_laws.proofs.MissVerdicts.{spaced_up_to}
 use Rattle.eg_laws.proofs.AvailabilityLaws.{keeps_path_2, path_2_conducts, trips_alone_cut, no_trip_comes}
 
 -- ---- by the rows of a history ----
-
--- the rows tell whether a trip has come
-tripped_rows : (s : Setting) (start : ℕ) (h : List Tick) → has_tripped (SpanRows s start h) ≡ tripped (moments_of s h)
-unfolding has_tripped rows_after moments_of
-tripped_rows s start [] = unfold tripped in refl
-tripped_rows s start (x ∷ h) = ap₂ (λ a b. a || b) now (tripped_rows s start h)
-    ∙ sym (tripped-cons (moment s x.effects x.entry (moments_of s h)) (moments_of s h))
-  where
-    now : trips (RowAfter s start x h).found ≡ (moment s x.effects x.entry (moments_of s h)).trip
-    now = unfold trips row_of in sym (fields s x.effects x.entry (moments_of s h)).trip
-
-rows-cons : (s : Setting) (start : ℕ) (x : Tick) (h : List Tick) → SpanRows s start (x ∷ h) ≡ RowAfter s start x h ∷ SpanRows s start h
-unfolding rows_after moments_of
-rows-cons s start x h = refl
 
 none_set : (bit : Row → Bool) (rows : List Row) → All (λ row. bit row ≡ false) rows → list_any (λ b. b) (map bit rows) ≡ false
 none_set bit [] all = refl

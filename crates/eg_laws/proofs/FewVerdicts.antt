@@ -1,6 +1,5 @@
 -- Path 2 stays closed as long as few verdicts have come since the last one that was surely right.
 use Rattle.std.proofs.Common.{◌≡◌, ℕ, zero, suc, ◌+◌, ◌-◌, ◌*◌, ◌/◌, ◌%◌, ◌≤◌, ◌<◌, Bool, true, false, List, [], ◌∷◌, ◌++◌, length, refl, sym, ap, ◌∙◌, arith, inl, inr, Option, Some, None, subst, length-append}
-use Rattle.std.specs.Prelude.{if◌then◌else◌, ◌==◌}
 use Rattle.std.proofs.Math.Nat.{le-div_iff_mul-le, div-lt_iff_lt-mul, div-mul-le_self}
 use Rattle.std.proofs.lemmas.Nat.{mod-mul-add}
 use Rattle.std.proofs.lemmas.Bool.{cases_lt, or_from, lt-leb, ne_eqb}
@@ -9,17 +8,18 @@ use Rattle.eg_num.specs.Windows.{WeightParts, is_confirmed, greatest}
 use Rattle.eg_num.proofs.CounterLemmas.{greatest-bad, greatest-good, is_reached-greatest}
 use Rattle.eg_answer.specs.Times.{TimeParts, AreTimes, feeds_to_confirm}
 use Rattle.eg_answer.specs.Periods.{is_wrong}
-use Rattle.eg_answer.specs.declared.marks.AnswerMark.TheVariants.{Absent, Good}
+use Rattle.eg_answer.specs.declared.marks.AnswerMark.{AnswerMark}
+use Rattle.eg_answer.specs.declared.marks.AnswerMark.TheVariants.{Absent, Good, Bad}
 use Rattle.eg_answer.specs.declared.marks.Verdict.{Verdict}
+use Rattle.eg_fault.specs.Effects.{Effects}
 use Rattle.eg_fault.specs.Classes.{IsRegular}
 use Rattle.eg_model.specs.History.{Setting, Tick, SpanKind, Drive, Moment}
-use Rattle.eg_model.specs.Answers.{confirms_at}
+use Rattle.eg_model.specs.Answers.{mark_at, confirms_at}
 use Rattle.eg_model.specs.Paths.{latch2}
 use Rattle.eg_model.specs.Moments.{moment, moment_in, moments_in, moments_of}
 use Rattle.eg_model.proofs.PeriodLemmas.{period_closes}
 use Rattle.eg_model.proofs.TickLemmas.{Each, length-moments, fields, fields_in}
-use Rattle.eg_model.proofs.Silence.{AreRegular, wrongs, with_wrong, wrongs-cons, latch2-cons, period_least, verdict_none}
-use Rattle.eg_model.proofs.ReactionLaw.{Unanswered}
+use Rattle.eg_model.proofs.Silence.{AreRegular, wrongs, with_wrong, wrongs-cons, latch2-cons, period_least, verdict_none, sent_at_place}
 use Rattle.eg_model.proofs.SharpCutLaw.{AllGood, Calm, greatest-AllGood, not_reached, AreUsual, usual_mark, IsNotWrong, verdict_usual, right_bits, not_yet}
 
 -- ---- few bits after good ones don't confirm ----
@@ -130,22 +130,31 @@ nothing : (bits : List Bool) → length bits ≤ 0 → bits ≡ []
 nothing [] l = refl
 nothing (b ∷ bits) l = absurd (omega arith)
 
--- a tick between the send tick of period p and its end sends nothing
-not_sent : (times : TimeParts) (p t : ℕ) → p * times.period + times.send < t → t < (p + 1) * times.period →
-    usual_mark times t ≡ Absent
-not_sent times p t low high = go (t - p * times.period) (omega arith) (omega arith) (omega arith)
+-- a tick between the send tick of the period before period k and its end isn't a send tick
+not_placed : (times : TimeParts) (k t : ℕ) → k * times.period + times.send < t + times.period → t < k * times.period →
+    t % times.period ≡ times.send → ⊥
+not_placed times zero t low high = absurd (omega (arith, high))
+not_placed times (suc p) t low high = go (t - p * times.period) (omega arith) (omega arith) (omega arith)
   where
-    go : (r : ℕ) → t ≡ p * times.period + r → times.send < r → r < times.period →
-        (if t % times.period == times.send then Good else Absent) ≡ Absent
-    go r at more room =
-        rw (ap (λ n. n % times.period) at ∙ mod-mul-add p times.period r room, ne_eqb r times.send (λ e. omega arith)) refl
+    go : (r : ℕ) → t ≡ p * times.period + r → times.send < r → r < times.period → t % times.period ≡ times.send → ⊥
+    go r at more room e =
+        let place = ap (λ n. n % times.period) at ∙ mod-mul-add p times.period r room in omega (arith, place, more, e)
 
--- one tick more, at which no answer is sent, past the send tick of the period before
-few_more : (s : Setting) → AreTimes s.cal.times → (p : ℕ) (x : Tick) (h : List Tick) → IsRegular x.effects →
-    (moment s x.effects x.entry (moments_of s h)).mark ≡ Absent →
-    p * s.cal.times.period + s.cal.times.send < length h → HasFew s (p + 1) h → HasFew s (p + 1) (x ∷ h)
+-- so it sends nothing
+absent_between : (times : TimeParts) (x : Effects) (trip : Bool) (past : List Moment) → IsRegular x →
+    (length past % times.period ≡ times.send → ⊥) → mark_at times x trip past ≡ Absent
+absent_between times x trip past regular other = go (mark_at times x trip past) refl
+  where
+    go : (mark : AnswerMark) → mark_at times x trip past ≡ mark → mark_at times x trip past ≡ Absent
+    go Absent e = e
+    go Good e = absurd (other (sent_at_place times x trip past regular (λ none. let both : Absent ≡ Good = sym none ∙ e in cc)))
+    go Bad e = absurd (other (sent_at_place times x trip past regular (λ none. let both : Absent ≡ Bad = sym none ∙ e in cc)))
+
+-- one tick more, past the send tick of the period before period k
+few_more : (s : Setting) → AreTimes s.cal.times → (k : ℕ) (x : Tick) (h : List Tick) → IsRegular x.effects →
+    k * s.cal.times.period + s.cal.times.send < length h + s.cal.times.period → HasFew s k h → HasFew s k (x ∷ h)
 unfolding moments_of
-few_more s are p x h regular absent later was = elim (cases_lt ((p + 1) * s.cal.times.period) (length h + 1)) [
+few_more s are k x h regular later was = elim (cases_lt (k * s.cal.times.period) (length h + 1)) [
   | inr before ↦ early before
   | inl past_it ↦ late ((length h + 1) % s.cal.times.period) refl m.verdict refl (omega arith)
 ]
@@ -159,7 +168,7 @@ few_more s are p x h regular absent later was = elim (cases_lt ((p + 1) * s.cal.
     some : 0 < s.cal.times.period
     some = period_least s.cal.times are
 
-    early : length h + 1 ≤ (p + 1) * s.cal.times.period → HasFew s (p + 1) (x ∷ h)
+    early : length h + 1 ≤ k * s.cal.times.period → HasFew s k (x ∷ h)
     early before = record {
       bits = [];
       good = with_wrong m.verdict (wrongs past);
@@ -171,19 +180,29 @@ few_more s are p x h regular absent later was = elim (cases_lt ((p + 1) * s.cal.
     }
       where
         empty : was.bits ≡ []
-        empty = nothing was.bits (let none = none_ended (p + 1) s.cal.times.period (length h) some (omega arith) in let few = was.few in omega arith)
+        empty = nothing was.bits (let none = none_ended k s.cal.times.period (length h) some (omega arith) in let few = was.few in omega arith)
+
+        other : length h % s.cal.times.period ≡ s.cal.times.send → ⊥
+        other = not_placed s.cal.times k (length h) later (omega arith)
+
+        absent : m.mark ≡ Absent
+        absent = (fields s x.effects x.entry past).mark ∙ absent_between s.cal.times x.effects m.trip past regular
+            (λ e. other (ap (λ n. n % s.cal.times.period) (sym (length-moments s h)) ∙ e))
+
+        none_usual : Absent ≡ usual_mark s.cal.times (length h)
+        none_usual = rw (ne_eqb (length h % s.cal.times.period) s.cal.times.send other) refl
 
         usual : AreUsual s (x ∷ h)
-        usual = unfold AreUsual in (absent ∙ sym (not_sent s.cal.times p (length h) later (omega arith)), was.usual (omega arith))
+        usual = unfold AreUsual in (absent ∙ none_usual, was.usual (omega arith))
 
-    late : (r : ℕ) → (length h + 1) % s.cal.times.period ≡ r → (v : Option Verdict) → m.verdict ≡ v → (p + 1) * s.cal.times.period ≤ length h →
-        HasFew s (p + 1) (x ∷ h)
+    late : (r : ℕ) → (length h + 1) % s.cal.times.period ≡ r → (v : Option Verdict) → m.verdict ≡ v →
+        k * s.cal.times.period ≤ length h → HasFew s k (x ∷ h)
     late r ends None is over = record {
       bits = was.bits;
       good = was.good;
       are = wrongs-cons m past ∙ ap (λ v. with_wrong v (wrongs past)) is ∙ (unfold with_wrong in was.are);
       none_bad = was.none_bad;
-      few = still_few (length was.bits) _ _ (p + 1) was.few (no_less s.cal.times.period (length h) some);
+      few = still_few (length was.bits) _ _ k was.few (no_less s.cal.times.period (length h) some);
       usual = λ within. absurd (omega arith);
     }
     late (suc r) ends (Some v) is over = absurd (let none : m.verdict ≡ None = (fields s x.effects x.entry past).verdict
@@ -194,23 +213,21 @@ few_more s are p x h regular absent later was = elim (cases_lt ((p + 1) * s.cal.
       good = was.good;
       are = wrongs-cons m past ∙ ap (λ v. with_wrong v (wrongs past)) is ∙ (unfold with_wrong in ap (λ bits. is_wrong v ∷ bits) was.are);
       none_bad = was.none_bad;
-      few = one_few (length was.bits) _ _ (p + 1) was.few (closes s.cal.times.period (length h) some ends)
-          (some_begun (p + 1) s.cal.times.period (length h) some over);
+      few = one_few (length was.bits) _ _ k was.few (closes s.cal.times.period (length h) some ends)
+          (some_begun k s.cal.times.period (length h) some over);
       usual = λ within. absurd (omega arith);
     }
 
 -- and any number of ticks more
-pub few_on : (s : Setting) → AreTimes s.cal.times → (p : ℕ) (more h : List Tick) → AreRegular more →
-    Unanswered s more h → p * s.cal.times.period + s.cal.times.send < length h → HasFew s (p + 1) h →
-    HasFew s (p + 1) (more ++ h)
-unfolding Each Unanswered
-few_on s are p [] h regular none later was = was
-few_on s are p (x ∷ more) h regular none later was =
-    few_more s are p x (more ++ h) regular.0 none.0 (longer more)
-    (few_on s are p more h regular.1 none.1 later was)
+pub few_on : (s : Setting) → AreTimes s.cal.times → (k : ℕ) (more h : List Tick) → AreRegular more →
+    k * s.cal.times.period + s.cal.times.send < length h + s.cal.times.period → HasFew s k h → HasFew s k (more ++ h)
+unfolding Each
+few_on s are k [] h regular later was = was
+few_on s are k (x ∷ more) h regular later was =
+    few_more s are k x (more ++ h) regular.0 (longer more) (few_on s are k more h regular.1 later was)
   where
-    longer : (more : List Tick) → p * s.cal.times.period + s.cal.times.send < length (more ++ h)
-    longer more = let size = length-append more h in omega arith
+    longer : (more : List Tick) → k * s.cal.times.period + s.cal.times.send < length (more ++ h) + s.cal.times.period
+    longer more = let size = length-append more h in omega (arith, size, later)
 
 -- until as many periods have ended as confirm, path 2 isn't open
 pub still_shut : (s : Setting) → 0 < s.cal.times.period → 0 < s.cal.times.weights.up → 0 < s.cal.times.weights.limit →

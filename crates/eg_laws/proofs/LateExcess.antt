@@ -13,15 +13,13 @@ use Rattle.eg_fault.specs.Classes.{IsRegular}
 use Rattle.eg_fault.specs.declared.class.Class.TheVariants.{Path1Closed}
 use Rattle.eg_fault.specs.declared.class.Fault.{Fault}
 use Rattle.eg_model.specs.History.{Setting, Entry, Tick, Moment}
-use Rattle.eg_model.specs.Signals.{tripped}
 use Rattle.eg_model.specs.Paths.{latch2, path1_at, path2_at, both_conduct}
 use Rattle.eg_model.specs.Moments.{moments_of}
 use Rattle.eg_model.specs.Premises.{IsProper, AreProper, Follows}
 use Rattle.eg_laws.specs.LeastReaction.{CanExceed, GoesOn, ShowsWord, giving, exceeding, by_bits, closed_from}
 use Rattle.eg_model.proofs.TickLemmas.{Each}
 use Rattle.eg_model.proofs.Silence.{AreRegular, send_within}
-use Rattle.eg_model.proofs.ReactionLaw.{unanswered_on}
-use Rattle.eg_model.proofs.SharpCutLaw.{calm_until, trip_once_confirmed}
+use Rattle.eg_model.proofs.SharpCutLaw.{calm_until}
 use Rattle.eg_laws.proofs.FewVerdicts.{NoneOpens, HasFew, few_of_calm, few_on, still_shut}
 use Rattle.eg_laws.proofs.ExcessTicks.{follows_plain, follows_alike, ticks_shut, all_bits, all_plain, all_go_on, all_words, all_proper, proper_to, loaded_proper, size, period_positive, confirm_positive, reaction_is}
 
@@ -87,10 +85,6 @@ module _ (cal : CalibrationParts) (accepted : IsAccepted cal) (can : CanExceed c
       (calm_until s accepted before (all_plain s accepted can bits) (all_proper s accepted can bits late.quiet)
       (ap (is_confirmed torque) (all_bits s accepted can bits).1 ∙ late.quiet))
 
-  trip : tripped (moments_of s until) ≡ true
-  trip = trip_once_confirmed s accepted until (all_plain s accepted can (true ∷ bits)) (proper_to s accepted can true bits late.quiet)
-      (ap (is_confirmed torque) (all_bits s accepted can (true ∷ bits)).1 ∙ late.now)
-
   abbrev the_fault : Fault
   the_fault = record { onset = onset; class = Path1Closed }
 
@@ -140,9 +134,8 @@ module _ (cal : CalibrationParts) (accepted : IsAccepted cal) (can : CanExceed c
     -- few verdicts came by any tick after it
     few_after : (n : ℕ) → HasFew s (p + 1) (whole n)
     few_after n =
-        let all = few_on s accepted.times p (after n ++ last ∷ []) before
+        let all = few_on s accepted.times (p + 1) (after n ++ last ∷ []) before
         (regular_after n last (unfold no_effects in record { sends = refl; judged = refl }))
-        (unanswered_on s last (after n) before trip)
         (let a = size s accepted can bits in let b = late.size in omega arith) few_before in
         rw append_assoc at all
 

@@ -1,26 +1,23 @@
 -- R and as many ticks as confirm is the least bound under lapses: the history that shows it.
 use Rattle.std.proofs.Common.{◌≡◌, ℕ, zero, suc, ◌+◌, ◌-◌, ◌*◌, ◌≤◌, ◌<◌, ◌%◌, Bool, true, false, not, ◌||◌, ◌&&◌, List, [], ◌∷◌, ◌++◌, length, replicate, refl, sym, ap, ap₂, ◌∙◌, subst, arith, length-append}
-use Rattle.std.specs.Prelude.{if◌then◌else◌, ◌==◌}
-use Rattle.std.proofs.lemmas.Bool.{and_left, and_right, or_from}
+use Rattle.std.specs.Prelude.{◌==◌}
+use Rattle.std.proofs.lemmas.Bool.{or_from}
 use Rattle.std.proofs.lemmas.List.{length-replicate}
 use Rattle.std.proofs.lemmas.List.Elements.{All-cons, All-nil, All-append, All-replicate}
 use Rattle.eg_num.specs.Windows.{WeightParts, is_confirmed}
-use Rattle.eg_answer.specs.Times.{TimeParts, feeds_to_confirm, reaction_of}
-use Rattle.eg_answer.specs.declared.marks.AnswerMark.TheVariants.{Absent, Good, Bad}
+use Rattle.eg_answer.specs.Times.{feeds_to_confirm, reaction_of}
 use Rattle.eg_values.specs.Calibration.{CalibrationParts, IsAccepted}
-use Rattle.eg_fault.specs.Effects.{no_effects, sends_at}
+use Rattle.eg_fault.specs.Effects.{no_effects}
 use Rattle.eg_fault.specs.Faults.{effects_of, is_left_out, IsValidClass, IsNoneOrValid}
-use Rattle.eg_model.specs.History.{Setting, Tick, Moment}
+use Rattle.eg_model.specs.History.{Setting, Tick}
 use Rattle.eg_model.specs.Signals.{tripped}
-use Rattle.eg_model.specs.Answers.{is_sent, is_good, mark_at}
 use Rattle.eg_model.specs.Paths.{latch2, path1_at, path2_at, both_conduct}
 use Rattle.eg_model.specs.Moments.{moments_of}
 use Rattle.eg_model.specs.Premises.{AreProper}
 use Rattle.eg_laws.specs.LeastReaction.{CanExceed, GoesOn, ShowsWord}
 use Rattle.eg_laws.specs.LeastLapse.{RunsFit, least_lapse_bound, lapse_onset, missing_all, lapse_setting, before_lapse, missed_excess, Lasts, ExcessLastsSoLong, LapseBoundIsLeast}
-use Rattle.eg_model.proofs.TickLemmas.{Each, tripped-cons, fields}
+use Rattle.eg_model.proofs.TickLemmas.{Each, tripped-cons}
 use Rattle.eg_model.proofs.Silence.{AreRegular, send_within}
-use Rattle.eg_model.proofs.ReactionLaw.{Unanswered}
 use Rattle.eg_model.proofs.SharpCutLaw.{Calm, calm_until, latch1_shut}
 use Rattle.eg_laws.proofs.FewVerdicts.{NoneOpens, HasFew, few_of_calm, few_on, still_shut}
 use Rattle.eg_model.proofs.LapseRuns.{AllOrNone, trip_out, AllExceed}
@@ -50,12 +47,6 @@ always_out k = ap (λ n. (0 == n) || false) (one k)
 same_always : (k : ℕ) → effects_of missing_all k ≡ effects_of missing_all 0
 unfolding effects_of
 same_always k = ap (λ out. record no_effects { ran = λ i. not out }) (always_out k ∙ sym (always_out 0))
-
-never_sent : (times : TimeParts) (trip : Bool) (past : List Moment) → mark_at times (effects_of missing_all 0) trip past ≡ Absent
-unfolding mark_at is_sent effects_of no_effects is_left_out
-never_sent times trip past =
-    ap (λ sent. if sent then (if is_good (effects_of missing_all 0) past then Good else Bad) else Absent)
-    (and_left _ _ (and_right (sends_at (effects_of missing_all 0) times (length past)) false refl))
 
 -- ---- the history ----
 
@@ -113,14 +104,6 @@ module _ (cal : CalibrationParts) (accepted : IsAccepted cal) (fit : RunsFit cal
   untripped (suc n) = tripped-cons _ (moments_of s (whole n))
       ∙ or_from _ _ (trip_out s miss (moments_of s (whole n)) missed_out refl) (untripped n)
 
-  unanswered : (n : ℕ) → Unanswered s (replicate n miss) base
-  unfolding Unanswered
-  unanswered zero = tt
-  unanswered (suc n) = (
-    (fields s (effects_of missing_all 0) miss.entry (moments_of s (whole n))).mark ∙ never_sent cal.times _ (moments_of s (whole n)),
-    unanswered n,
-  )
-
   regular : (n : ℕ) → AreRegular (replicate n miss)
   unfolding Each
   regular zero = tt
@@ -132,7 +115,7 @@ module _ (cal : CalibrationParts) (accepted : IsAccepted cal) (fit : RunsFit cal
   none_opens (suc n) = (unfold effects_of no_effects in refl, none_opens n)
 
   few : (n : ℕ) → HasFew s (1 + 1) (whole n)
-  few n = few_on s accepted.times 1 (replicate n miss) base (regular n) (unanswered n)
+  few n = few_on s accepted.times (1 + 1) (replicate n miss) base (regular n)
       (let a = size_base in let b = onset_is in omega arith) (few_of_calm s (1 + 1) base calm)
 
   shut : (n : ℕ) → n < reaction_of cal.times → latch2 (moments_of s (whole n)) ≡ false

@@ -13,6 +13,9 @@ pub mod MissWeights
 pub mod MissTicks
 pub mod SingleMisses
 pub mod MissVerdicts
+pub mod TripRows
+pub mod PairsFoundLaws
+pub mod SharpUnderLaws
 pub mod AvailabilityLaws
 pub mod AvailabilityRecords
 pub mod ShortStretches
@@ -30,3 +33,16 @@ pub mod WeightLimitLaws
 pub mod WordLaws
 pub mod SeenExcess
 pub mod PathLaws
+pub mod SilentVerdicts
+pub mod CoverageLaws
+pub mod MovedAnswers
+pub mod WorkedCoverage
+pub mod CoverageRecords
+pub mod LatentTicks
+pub mod LatentRuns
+pub mod LatentLaws
+pub mod LatentOffsets
+pub mod LatentRest
+pub mod LatentAtRest
+pub mod LatentMoves
+pub mod NeverCutsLaws

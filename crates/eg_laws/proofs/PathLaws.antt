@@ -41,11 +41,11 @@ use Rattle.eg_laws.proofs.FewVerdicts.{shut_unless_confirmed, too_few, quotient_
 
 -- ---- each row, with those before it ----
 
-unfoldable EachRow : (Row → List Row → Type 0) → List Row → Type 0
+unfoldable pub EachRow : (Row → List Row → Type 0) → List Row → Type 0
 EachRow P [] = Unit {0}
 EachRow P (row ∷ before) = P row before × EachRow P before
 
-each_split : (P : Row → List Row → Type 0) (rows later : List Row) (row : Row) (before : List Row) → EachRow P rows → rows ≡ later ++ row ∷ before → P row before
+pub each_split : (P : Row → List Row → Type 0) (rows later : List Row) (row : Row) (before : List Row) → EachRow P rows → rows ≡ later ++ row ∷ before → P row before
 unfolding EachRow
 each_split P [] [] row before each e = absurd (nothing e)
 each_split P [] (y ∷ later) row before each e = absurd (nothing e)
@@ -61,7 +61,7 @@ module _ (s : Setting) (start : ℕ) where
   abbrev RowNow : Tick → List Tick → Row
   RowNow x h = row_of (start + length (moments_of s h)) (Now x h)
 
-  trips_row : (x : Tick) (h : List Tick) → trips (RowNow x h) ≡ (Now x h).trip
+  pub trips_row : (x : Tick) (h : List Tick) → trips (RowNow x h) ≡ (Now x h).trip
   unfolding trips row_of
   trips_row x h = sym (fields s x.effects x.entry (moments_of s h)).trip
 

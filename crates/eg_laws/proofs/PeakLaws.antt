@@ -231,7 +231,7 @@ demand_at-least cal accepted drive =
     omega (arith, table)
 
 module _ (s : Setting) (accepted : IsAccepted s.cal) where
-  limit-least : (row : Row) (before : ℕ) → row.limit ≡ ramped s.cal.rules.fall before (demand_at s.cal row.drive) →
+  pub limit-least : (row : Row) (before : ℕ) → row.limit ≡ ramped s.cal.rules.fall before (demand_at s.cal row.drive) →
       least_permitted s.cal.rules.permit ≤ row.limit
   limit-least row before is =
       let least = ramped-least s.cal.rules.fall before (demand_at s.cal row.drive) in

@@ -13,4 +13,9 @@ pub mod Seeing
 pub mod Paths
 pub mod Availability
 pub mod WeightLimits
+pub mod PairsFound
+pub mod SharpUnder
+pub mod Coverage
+pub mod Latent
+pub mod NeverCuts
 pub mod Examples

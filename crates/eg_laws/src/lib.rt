@@ -9,16 +9,21 @@
 
 mod availability;
 mod bursts;
+mod coverage;
 mod findings;
 mod in_words;
+mod latent;
 mod least_lapse;
 mod least_reaction;
 mod limits;
+mod never_cuts;
 mod outputs;
+mod pairs_found;
 mod paths;
 mod ramps;
 mod records;
 mod seeing;
+mod sharp_under;
 mod stretches;
 mod weight_limits;
 
@@ -26,12 +31,22 @@ pub use availability::{far_misses_never_cut, records_stay_available};
 pub use bursts::{
     bursts_are_sparse, bursts_last, densest_feeds, records_are_sparse, records_end_bursts,
 };
+pub use coverage::{
+    closed_paths_are_found, moved_answers_are_cut, spoiled_answers_open_path_2,
+    wrong_answers_are_found_exactly, wrong_answers_run,
+};
 pub use findings::{records_find_in_time, records_find_sharply, records_name_what_cuts};
 pub use in_words::told_numbers_are_least;
+pub use latent::{
+    faults_stay_hidden, faults_stay_hidden_at_rest, moves_in_the_window_stay_hidden,
+    small_offsets_stay_hidden,
+};
 pub use least_lapse::{lapse_bound_is_least, longest_excess_run};
 pub use least_reaction::{latest_cut_run, reaction_is_least};
 pub use limits::records_keep_limits;
+pub use never_cuts::permitted_throttles_never_cut;
 pub use outputs::level_1_acts_by_its_outputs;
+pub use pairs_found::records_find_pairs;
 pub use paths::records_tell_paths;
 pub use ramps::records_leave_ramps;
 pub use records::{
@@ -39,5 +54,6 @@ pub use records::{
     records_cut_standing_excess, records_react, records_test_the_paths, spans_react_in_time,
 };
 pub use seeing::{premises_are_needed, seen_excess_is_cut};
+pub use sharp_under::records_cut_sharply_under;
 pub use stretches::{excess_ends, longest_stretch_run, records_end_excess};
 pub use weight_limits::records_disregard_limits;

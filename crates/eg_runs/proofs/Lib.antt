@@ -13,3 +13,5 @@ pub mod WorkedBraking
 pub mod WorkedFacts
 pub mod WorkedDiesel
 pub mod WorkedOutputs
+pub mod WorkedHidden
+pub mod WorkedThrottles

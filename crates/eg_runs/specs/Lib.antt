@@ -12,3 +12,4 @@ pub use Rattle.eg_model.specs.Examples
 pub use Rattle.eg_model.specs.Rows
 pub use Rattle.eg_record.specs.Texts
 pub use Rattle.eg_values.specs.Reference
+pub mod Throttles

@@ -8,12 +8,14 @@ mod diesel;
 mod examples;
 mod facts;
 mod faulty_runs;
+mod hidden_runs;
 mod lapses;
 mod outputs;
 mod power_cycles;
 mod ramps;
 mod short_faulty_runs;
 mod short_runs;
+mod throttles;
 mod unusual_runs;
 
 pub use braking::{braking_ticks, contacts_and_gates, held_throttle_run};
@@ -29,6 +31,10 @@ pub use facts::facts_tick_by_tick;
 pub use faulty_runs::{
     disturbed_run, flipped_run, lost_load_run, moved_answers_run, path_1_closed_run,
     path_1_closes_run, raised_pedal_run, reaction_is_met, skipped_run,
+};
+pub use hidden_runs::{
+    offset_that_is_cut_off, pair_that_is_seldom_apart, send_tick_that_is_moved,
+    skips_in_short_spans,
 };
 pub use lapses::{
     a_miss_cuts_on_the_ramp, a_run_with_lapses_is_cut, missed_gap_is_cut,
@@ -46,6 +52,7 @@ pub use short_faulty_runs::{
     latched_run, limited_run, offset_track, path_2_runs, wild_run,
 };
 pub use short_runs::{alternating_slices, full_run, passed_test, probing_run, raise_is_read};
+pub use throttles::greatest_throttle_that_never_cuts;
 pub use unusual_runs::{
     early_answers_run, reading_that_is_cut_off_run, signal_that_stays_run, two_answers_run,
 };

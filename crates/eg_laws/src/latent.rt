@@ -1,0 +1,38 @@
+// Which faults can stay hidden.
+ghost use Rattle.eg_plant.specs.declared.engine_kind.EngineKind.{EngineKind};
+ghost use Rattle.eg_model.specs.Engines.{bench_of};
+ghost use Rattle.eg_laws.specs.Latent.{ReadingsApartHide, FarMissesHide, SingleMissesHide, SmallOffsetsHide, RestHides, DieselIsCalm, MovesInWindowHide};
+
+/// Faults that can stay hidden (docs/CONCEPT.md, "Faults"): by each accepted calibration and for each engine
+/// there are runs of every length under them in which no watch finds anything at any tick. A shut-off path
+/// that is held closed or doesn't conduct, a plate that is held and a wild monitoring module are such faults;
+/// and so is a lapse whose misses lie `eg_answer::miss_spacing` ticks apart or more. It does nothing when it
+/// runs.
+pub fn faults_stay_hidden()
+    ensures readings_apart { (engine : EngineKind) → ReadingsApartHide (bench_of engine) }
+    ensures lapses { (engine : EngineKind) → FarMissesHide (bench_of engine) }
+    ensures single { (engine : EngineKind) → SingleMissesHide (bench_of engine) }
+{}
+
+/// Offsets that can stay hidden (docs/CONCEPT.md, "Faults"): those that move the readings of a track by no
+/// more than the tolerance of its pair, and with which the greatest raise permits what is read of the load.
+/// It does nothing when it runs.
+pub fn small_offsets_stay_hidden()
+    ensures { (engine : EngineKind) → SmallOffsetsHide (bench_of engine) }
+{}
+
+/// Faults that can stay hidden where pedal, plate and raise are at 0 (docs/CONCEPT.md, "Faults"), if the
+/// permit table permits the torque estimate of the engine at rest, as it does of each diesel engine:
+/// flipped bits of the raise, whatever is read of a contact of the brake, and offsets that are cut off
+/// there, however great they are. It does nothing when it runs.
+pub fn faults_stay_hidden_at_rest()
+    ensures rest { (engine : EngineKind) → RestHides (bench_of engine) }
+    ensures diesel { DieselIsCalm }
+{}
+
+/// A send tick that is moved within the answer window can stay hidden if the period in which it is moved
+/// keeps one answer, or one wrong verdict isn't enough to confirm (docs/CONCEPT.md, "Questions and answers").
+/// It does nothing when it runs.
+pub fn moves_in_the_window_stay_hidden()
+    ensures { (engine : EngineKind) → MovesInWindowHide (bench_of engine) }
+{}
