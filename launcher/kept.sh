@@ -1,5 +1,5 @@
 # Read by the launcher, the gate and tools/release: where the program is kept, and whether anything has changed since
-# its checksums were compared. `top` is the top of the repository.
+# its checksums were compared. `top` is the top of the repository, maybe from the caller's folder.
 # shellcheck shell=bash
 export LC_ALL=C
 # Folders on the path that aren't absolute don't count: whoever made the caller's folder would choose the commands.
@@ -18,13 +18,16 @@ kept=$top/out
 say() { printf 'egasim: %s\n' "$*" >&2; }
 fail() { say "$*"; exit 1; }
 
-# Becomes what prints the stamp of each file that $1 names: its size, times and place. Whole seconds are enough, since no
-# stamp is kept of a file that is younger than two.
+# Becomes what prints the stamp of each file that standard input names: its size, times and place. Whole seconds are enough,
+# since no stamp is kept of a file that is younger than two.
 stamps() {
-  cd -- "$top" && exec xargs -0 stat -L -c '%s %Y %Z %i' -- \
-    "${rt:-$kept/egasim.sum}" "$kept/egasim" "$kept/egasim.sum" <"$1" 2>/dev/null
+  local place=${EGASIM_OUT:+$kept}
+  place=${place:-out}
+  cd -- "$top/" && exec xargs -0 stat -L -c '%s %Y %Z %i' -- \
+    "${rt:-$place/egasim.sum}" "$place/egasim" "$place/egasim.sum" 2>/dev/null
 }
 
 is_unchanged() {
-  [ -x "$kept/egasim" ] && [ -f "$kept/egasim.stamps" ] && stamps "$kept/egasim.files" | cmp -s - "$kept/egasim.stamps"
+  [ -x "$kept/egasim" ] && [ -f "$kept/egasim.stamps" ] && [ -f "$kept/egasim.files" ] &&
+    stamps <"$kept/egasim.files" | cmp -s - "$kept/egasim.stamps"
 }

@@ -2,6 +2,8 @@
 # sum has the checksum of sources with the kit's name, that of the program, and the kit's name. release/egasim.sum is
 # one; out/egasim.sum has above it where the program there is from, `proved here` or `carried`.
 # shellcheck shell=bash
+top=$(cd -P -- "$top/" && echo "$PWD")
+[ -n "${EGASIM_OUT-}" ] || kept=$top/out
 [ -z "$rt" ] || rt=$(readlink -f -- "$rt")
 kit='' origin='' ready='' sum='' list='' work='' room='' child='' lock=''
 
@@ -17,32 +19,45 @@ trap clean EXIT; trap 'exit 129' HUP; trap 'exit 130' INT; trap 'exit 141' PIPE;
 # Does this, in words of find, with what the program is built from, below the folder where it is called. What rt makes,
 # must-fail edits, and what editors leave (names that begin with a dot or #, or end with ~) are no sources.
 sources() {
-  find HANDLES crates.txt crates \( -regex 'crates/[^/]*/out' -o -regex 'crates/[^/]*/must-fail' -o \
+  find HANDLES crates.txt crates \( \( -name out -o -name must-fail \) -path 'crates/*/*' ! -path 'crates/*/*/*' -o \
     -name '.*' -o -name '#*' -o -name '*~' \) -prune -o "$@"
 }
 
-# The checksums of the sources in the folder $1, by their names.
-sums_in() { (cd -- "$1" && sources -type f -print0 | sort -z | xargs -0 sha256sum --); }
+# The checksums of the sources in the folder $1, by their names. What is neither file nor folder has no name here, so that
+# it fails: who reads a FIFO waits for ever.
+sums_in() {
+  (cd -- "$1" && sources \( -type f -print0 -o ! -type d -exec printf '\0' \; \) | sort -z | xargs -0 sha256sum --)
+}
 
-# Sets `list` to the checksums of the sources as they stand. (Who reads a FIFO waits for ever.)
+# Sets `list` to the checksums of the sources as they stand.
 read_sources() {
   local odd
+  ! list=$(sums_in "$top" 2>/dev/null) || return 0
   odd=$(cd -- "$top" && sources ! -type d ! -type f -print -quit 2>/dev/null)
   [[ $odd != *[^[:print:]]* ]] || printf -v odd %q "$odd"
   [ -z "$odd" ] || fail "$top/$odd isn't a file or folder"
-  list=$(sums_in "$top" 2>/dev/null) ||
-    fail "a source can't be read: $(sums_in "$top" 2>&1 >/dev/null | head -n 1)"
+  fail "a source can't be read: $(sums_in "$top" 2>&1 >/dev/null | head -n 1)"
 }
 
 # The checksum of a file; the sum of the sources in `list` by the kit $1, and of the program with the checksum $2.
-sum_of_file() { sha256sum <"$1" | head -c 64; }
+sum_of_file() { printf '%.64s' "$(sha256sum <"$1")"; }
 sum_text() {
-  printf '%s\n' "sources with kit $(printf '%s\n' "$1" "$list" | sha256sum | head -c 64)" "program $2" "kit $1"
+  printf 'sources with kit %.64s\n' "$(printf '%s\n' "$1" "$list" | sha256sum)"
+  printf '%s\n' "program $2" "kit $1"
 }
 
 # What a sum says of the program, and of the kit, whose name may have several lines.
-program_of() { sed -n '2s/^program //p' <<<"$1"; }
-kit_of() { sed '1,2d; 3s/^kit //' <<<"$1"; }
+program_of() {
+  local line=${1#*$'\n'}
+  line=${line%%$'\n'*}
+  [[ $line != 'program '* ]] || echo "${line#program }"
+}
+kit_of() {
+  local rest=${1#*$'\n'}
+  [[ $rest == *$'\n'* ]] || return 0
+  rest=${rest#*$'\n'}
+  printf '%s\n' "${rest#kit }"
+}
 kit_of_rt() {
   [ -z "$rt" ] || cat -- "${rt%/*}/../KIT-ID" 2>/dev/null || "$rt" version 2>/dev/null </dev/null | head -n 1
 }
@@ -59,7 +74,7 @@ note_stamps() {
     (cd -- "$top" && sources -print0)
     [ ! -e "$top/release/egasim.sum" ] || printf '%s\0' release/egasim.sum
     [ -z "$rt" ] || printf '%s\0' "${rt%/*}/../KIT-ID"
-  } >"$work/egasim.files" && noted_stamps=$(stamps "$work/egasim.files") || noted_stamps=''
+  } >"$work/egasim.files" && noted_stamps=$(stamps <"$work/egasim.files") || noted_stamps=''
 } 2>/dev/null
 
 # Keeps these stamps, so that the next call reads no sources, if each was two seconds old: a younger file may change once
@@ -75,8 +90,9 @@ is_carried() {
   local said carried
   origin=''
   [ ! -L "$top/release" ] && [ ! -L "$top/release/egasim.sum" ] && [ -f "$top/release/egasim.sum" ] || return
-  said=$(tr -d '\0' <"$top/release/egasim.sum")
-  carried=$(sum_text "$(kit_of "$said")" "$(program_of "$said")")
+  { said=$(<"$top/release/egasim.sum"); } 2>/dev/null
+  carried=$sum
+  [ "$said" = "$carried" ] || carried=$(sum_text "$(kit_of "$said")" "$(program_of "$said")")
   [ "$said" = "$carried" ] && origin=carried sum=$carried kit=$(kit_of "$carried")
 }
 
@@ -95,7 +111,7 @@ find_program() {
     fail "git tracks $kept: a program that was committed there counts for nothing"
   note_stamps
   read_sources
-  [ ! -f "$kept/egasim.sum" ] || noted=$(tr -d '\0' <"$kept/egasim.sum")
+  [ ! -f "$kept/egasim.sum" ] || { noted=$(<"$kept/egasim.sum"); } 2>/dev/null
   [ ! -f "$kept/egasim" ] || [ ! -x "$kept/egasim" ] || program=$(sum_of_file "$kept/egasim")
   kit=$(kit_of_rt)
   [ -n "$rt" ] || kit=$(kit_of "${noted#*$'\n'}")

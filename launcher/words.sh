@@ -10,13 +10,18 @@ told() {
 }
 # What has changed since the commit: of what it tracks anything, and of sources also those that it doesn't track.
 changes() { in_git status --porcelain -uno && in_git status --porcelain -- HANDLES crates.txt crates; }
+told_commit() {
+  local commit
+  ! commit=$(in_git rev-parse --verify --quiet HEAD) || echo "commit $commit$(changes | sed -n '1s/.*/, with changes/p')"
+}
 
 case $1 in
 --version)
+  exec {commit}< <(told_commit)
+  note_stamps() { noted_stamps=''; } # only a call that runs the program needs them
   find_program
   echo "egasim $(cat -- "$top/VERSION")"
-  ! commit=$(in_git rev-parse --verify --quiet HEAD) ||
-    echo "commit $commit$(changes | sed -n '1s/.*/, with changes/p')"
+  cat <&"$commit"
   echo "${sum%%$'\n'*}" && told
   ;;
 --check)

@@ -5,15 +5,16 @@
 //! `egasim` takes, refuses what it refuses, and writes what it writes, notes too. It was written from docs/, is
 //! measured beside the proved program by `bench/unit` and `bench/all`, and compared with it by `bench/compare` and
 //! `bench/fuzz`. Nothing of it is proved.
-//! Usage: check [--cal NAME] FILE, bound [--cal NAME], limits [--cal NAME], answers FILE, run [--cal NAME] CAMPAIGN,
-//! table [--cal NAME] CAMPAIGN, margins [--cal NAME] CAMPAIGN, record [--cal NAME] CAMPAIGN RUN,
-//! couple [--cal NAME] CAMPAIGN RUN, sweep [--cal NAME] CAMPAIGN RUN STEP, soak SEED RUNS, replay [--cal NAME],
-//! signals [--cal NAME], asm FILE, dis FILE
+//! Usage: check [--cal NAME] FILE, bound [--cal NAME], limits [--cal NAME], coverage [--cal NAME], answers FILE,
+//! run [--cal NAME] CAMPAIGN, table [--cal NAME] CAMPAIGN, margins [--cal NAME] CAMPAIGN,
+//! record [--cal NAME] CAMPAIGN RUN, couple [--cal NAME] CAMPAIGN RUN, sweep [--cal NAME] CAMPAIGN RUN STEP,
+//! soak SEED RUNS, replay [--cal NAME], signals [--cal NAME], asm FILE, dis FILE
 
 mod calibration;
 mod calibration_file;
 mod campaign;
 mod couple;
+mod coverage;
 mod engine;
 mod fault;
 mod files;
@@ -158,6 +159,14 @@ fn limits(cal: &Calibration, out: &mut Output) -> Result<(), End> {
     put(format!("stretch {}\n", cal.stretch()).as_bytes(), out)?;
     put(format!("peak {}\n", cal.peak()).as_bytes(), out)?;
     put(format!("ramp {}\n", or_none(cal.ramp_ticks())).as_bytes(), out)?;
+    Ok(())
+}
+
+/// What finds each class of fault, and when.
+fn coverage(cal: &Calibration, out: &mut Output) -> Result<(), End> {
+    for line in coverage::lines(cal) {
+        put(line.as_bytes(), out)?;
+    }
     Ok(())
 }
 
@@ -402,6 +411,7 @@ fn work(words: &[&str], out: &mut Output) -> Result<(), End> {
     match (form.as_slice(), name) {
         (["bound"], _) => bound(&calibration(name)?, out),
         (["limits"], _) => limits(&calibration(name)?, out),
+        (["coverage"], _) => coverage(&calibration(name)?, out),
         (["check", file], _) if is_name(file) => check(&calibration(name)?, file, out),
         (["run", file], _) if is_name(file) => run(&called(file)?, out),
         (["table", file], _) if is_name(file) => table(&called(file)?, out),

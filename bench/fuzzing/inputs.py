@@ -163,19 +163,19 @@ def made_input(seed, count):
     if chance.random() < 0.0006:
         words, files = large(chance)
         return [word.encode() for word in words], files
-    command = chance.choice(["check", "check", "bound", "limits", "limits", "answers", "answers", "run", "run", "run",
+    command = chance.choice(["check", "check", "bound", "limits", "limits", "coverage", "answers", "answers", "run", "run", "run",
                              "table", "table", "margins", "record", "sweep", "asm", "asm", "dis", *MEASURING,
                              COUPLING, COUPLING])
-    takes = {"check": ["check"], "bound": [], "limits": [], "answers": [], "asm": ["source"], "dis": ["image"],
+    takes = {"check": ["check"], "bound": [], "limits": [], "coverage": [], "answers": [], "asm": ["source"], "dis": ["image"],
              "replay": ["measurement"], "signals": ["measurement"],
              COUPLING: ["campaign", "image", "trace", "trace", *["answers"] * 4]}.get(
         command, ["campaign", "campaign", "campaign", "trace", "image"])
     kinds = set()
-    of_calibration = command in ("bound", "limits", "answers")
+    of_calibration = command in ("bound", "limits", "coverage", "answers")
     with_calibration = of_calibration or command not in ("asm", "dis") and chance.random() < (
         0.5 if command in MEASURING else 0.3 if command == COUPLING else 0.1)
     takes = takes + ["calibration"] * with_calibration
-    for _ in range(chance.choice([0] * (8 if command in ("limits", "answers", COUPLING) else 1) + [1] * 8 + [2])):
+    for _ in range(chance.choice([0] * (8 if command in ("limits", "coverage", "answers", COUPLING) else 1) + [1] * 8 + [2])):
         kinds.add(chance.choice(takes))
     files, words = {}, [command]
     if with_calibration:
@@ -214,7 +214,7 @@ def other_words(chance, words):
     place = chance.randrange(len(words))
     words[place:place + chance.randint(0, 2)] = chance.sample(
         ["", "-", "--cal", "my.toml", "in.csv", "c.toml", "s.asm", "i.hex", "check", "run", "table", "margins", "record",
-         "bound", "sweep", "limits", "answers", "asm", "dis", "replay", "signals", "couple", "r0", "soak", "1", b"\xff",
+         "bound", "sweep", "limits", "coverage", "answers", "asm", "dis", "replay", "signals", "couple", "r0", "soak", "1", b"\xff",
          "é"],
         chance.randint(0, 2))
     return words

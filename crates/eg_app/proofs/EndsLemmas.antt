@@ -26,7 +26,7 @@ use Rattle.eg_stream.proofs.LawLemmas.{stream_done}
 use Rattle.eg_stream.proofs.MeasuringLemmas.{holds-any}
 use Rattle.eg_app.specs.declared.job.Job.{Job}
 use Rattle.eg_app.specs.declared.job.Job.TheVariants as job
-use Rattle.eg_app.specs.Words.{Command, by, soak, answers, asm, dis, Work, check, bound, limits, run, record_run, sweep, replay, signals, couple}
+use Rattle.eg_app.specs.Words.{Command, by, soak, answers, asm, dis, Work, check, bound, limits, coverage, run, record_run, sweep, replay, signals, couple}
 use Rattle.eg_app.specs.Gathered.{Gathers, GathersBy}
 use Rattle.eg_app.specs.Performed.{Performs}
 use Rattle.eg_app.specs.Unlined.{EndsWithoutLines, no_lines}
@@ -73,6 +73,7 @@ work_done cal (check file) store accepts end come =
     without_job IsDoneOrMemory (job.Check cal) end come (file_done role.Check check_file file store accepts.0 accepts.1)
 work_done cal bound store accepts end come = absurd (no_value (job.Bound cal) end come)
 work_done cal limits store accepts end come = absurd (no_value (job.Limits cal) end come)
+work_done cal coverage store accepts end come = absurd (no_value (job.Coverage cal) end come)
 work_done cal (run telling campaign) store accepts end come =
     without_job IsDoneOrMemory (job.Run telling cal) end come (runs_done campaign store accepts)
 work_done cal (record_run campaign name) store accepts end come =
@@ -102,6 +103,7 @@ job_done : (one : Job) (lines : Change ShownLines) (out : Change ShownSink) (tic
 job_done (job.Check cal rows) lines out ticks o holds still told = line_done _ out o told.1.2 still
 job_done (job.Bound cal) lines out ticks o holds still told = line_done _ out o told.1.2 still
 job_done (job.Limits cal) lines out ticks o holds still told = line_done _ out o told.1.2 still
+job_done (job.Coverage cal) lines out ticks o holds still told = line_done _ out o told.1.2 still
 job_done (job.Run telling cal inputs) lines out ticks o holds still told = line_done _ out o told.plays.written still
 job_done (job.Record cal input) lines out ticks o holds still told = line_done _ out o told.written still
 job_done (job.Sweep cal input step) lines out ticks o holds still told = line_done _ out o told.plays.written still

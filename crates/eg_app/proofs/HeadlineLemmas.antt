@@ -25,7 +25,7 @@ use Rattle.eg_stream.specs.Streams.{LeadTo}
 use Rattle.eg_stream.specs.Texts.{coupled_text}
 use Rattle.eg_app.specs.declared.job.Job.{Job}
 use Rattle.eg_app.specs.declared.job.Job.TheVariants as job
-use Rattle.eg_app.specs.Words.{Command, by, soak, answers, asm, dis, Work, check, bound, limits, run, record_run, sweep, replay, signals, couple}
+use Rattle.eg_app.specs.Words.{Command, by, soak, answers, asm, dis, Work, check, bound, limits, coverage, run, record_run, sweep, replay, signals, couple}
 use Rattle.eg_app.specs.Gathered.{Gathers, GathersBy}
 use Rattle.eg_app.specs.Performed.{Performs}
 use Rattle.eg_app.specs.Ends.{Call, Ends}
@@ -42,6 +42,7 @@ pub work_stops : (cal : CalibrationParts) (work : Work) (store : Change ShownSto
 work_stops cal (check file) store end come = without_job IsStop (job.Check cal) end come (file_stops role.Check check_file file store tt)
 work_stops cal bound store end come = absurd (no_value (job.Bound cal) end come)
 work_stops cal limits store end come = absurd (no_value (job.Limits cal) end come)
+work_stops cal coverage store end come = absurd (no_value (job.Coverage cal) end come)
 work_stops cal (run telling campaign) store end come = without_job IsStop (job.Run telling cal) end come (runs_stop campaign store)
 work_stops cal (record_run campaign name) store end come = without_job IsStop (job.Record cal) end come (named_stops campaign name store)
 work_stops cal (sweep campaign name step) store end come =
@@ -101,6 +102,7 @@ module _ (store : Change ShownStore) (lines : Change ShownLines) (out : Change S
   work_tells calibration (check file) cal one used come told = tt
   work_tells calibration bound cal one used come told = tt
   work_tells calibration limits cal one used come told = tt
+  work_tells calibration coverage cal one used come told = tt
   work_tells calibration replay cal one used come told = tt
   work_tells calibration signals cal one used come told = tt
   work_tells calibration (run telling campaign) cal one used come told = with_job (job.Run telling cal) one come (λ inputs read made.

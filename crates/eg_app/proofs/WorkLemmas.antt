@@ -24,7 +24,7 @@ use Rattle.eg_stream.proofs.MeasuringLemmas.{recording-refuses}
 use Rattle.eg_stream.proofs.StreamLemmas.{IsOfLines, RefusesLines}
 use Rattle.eg_app.specs.declared.job.Job.{Job}
 use Rattle.eg_app.specs.declared.job.Job.TheVariants as job
-use Rattle.eg_app.specs.Words.{Command, by, soak, answers, asm, dis, Work, check, bound, limits, run, record_run, sweep, replay, signals, couple, asks_lines, campaign_in, reads_lines}
+use Rattle.eg_app.specs.Words.{Command, by, soak, answers, asm, dis, Work, check, bound, limits, coverage, run, record_run, sweep, replay, signals, couple, asks_lines, campaign_in, reads_lines}
 use Rattle.eg_app.specs.Gathered.{Gathers, GathersBy}
 use Rattle.eg_app.specs.Performed.{Performs, PutsNothingBy, takes_lines}
 use Rattle.eg_app.specs.Ends.{HasPutNothing}
@@ -65,6 +65,7 @@ module _ (lines : Change ShownLines) (out : Change ShownSink) (ticks : Change Ti
   performed (job.Check cal rows) o told = line_work _ out o told.1.2
   performed (job.Bound cal) o told = line_work _ out o told.1.2
   performed (job.Limits cal) o told = line_work _ out o told.1.2
+  performed (job.Coverage cal) o told = line_work _ out o told.1.2
   performed (job.Run telling cal inputs) o told = line_work _ out o told.plays.written
   performed (job.Record cal input) o told = line_work _ out o told.written
   performed (job.Sweep cal input step) o told = line_work _ out o told.plays.written
@@ -140,6 +141,7 @@ module _ (store : Change ShownStore) where
   work_lines cal (check file) one come = with_job (job.Check cal) one come (λ x read made. ap takes_lines made)
   work_lines cal bound one come = ap takes_lines (same_value (Ok one) one (job.Bound cal) refl come)
   work_lines cal limits one come = ap takes_lines (same_value (Ok one) one (job.Limits cal) refl come)
+  work_lines cal coverage one come = ap takes_lines (same_value (Ok one) one (job.Coverage cal) refl come)
   work_lines cal (run telling campaign) one come = with_job (job.Run telling cal) one come (λ x read made. ap takes_lines made)
   work_lines cal (record_run campaign name) one come = with_job (job.Record cal) one come (λ x read made. ap takes_lines made)
   work_lines cal (sweep campaign name step) one come = with_job (λ input. job.Sweep cal input step) one come (λ x read made. ap takes_lines made)
@@ -171,6 +173,7 @@ module _ (store : Change ShownStore) where
     by_work cal (check file) calibration come nothing = never (work_lines cal (check file) one come) nothing
     by_work cal bound calibration come nothing = never (work_lines cal bound one come) nothing
     by_work cal limits calibration come nothing = never (work_lines cal limits one come) nothing
+    by_work cal coverage calibration come nothing = never (work_lines cal coverage one come) nothing
     by_work cal (run telling campaign) calibration come nothing = never (work_lines cal (run telling campaign) one come) nothing
     by_work cal (record_run campaign name) calibration come nothing = never (work_lines cal (record_run campaign name) one come) nothing
     by_work cal (sweep campaign name step) calibration come nothing = never (work_lines cal (sweep campaign name step) one come) nothing

@@ -19,7 +19,7 @@ use Rattle.eg_play.specs.Ends.{NamedComes, RunsCome, SweptComes, UndrivenComes}
 use Rattle.eg_play.specs.Sweeping.{IsSweepable}
 use Rattle.eg_app.specs.declared.job.Job.{Job}
 use Rattle.eg_app.specs.declared.job.Job.TheVariants as job
-use Rattle.eg_app.specs.Words.{Command, by, soak, answers, asm, dis, Work, check, bound, limits, run, record_run, sweep, replay, signals, couple}
+use Rattle.eg_app.specs.Words.{Command, by, soak, answers, asm, dis, Work, check, bound, limits, coverage, run, record_run, sweep, replay, signals, couple}
 
 -- something comes, and this job is made of it; or the call ends without it
 abbrev pub Makes : {X : Type 0} → (X → Job) → (Result X Outcome → Type 0) → Result Job Outcome → Type 0
@@ -31,6 +31,7 @@ GathersBy cal (check file) store come =
     Makes (job.Check cal) (FileComes role.Check check_file file store) come
 GathersBy cal bound store come = come ≡ Ok (job.Bound cal)
 GathersBy cal limits store come = come ≡ Ok (job.Limits cal)
+GathersBy cal coverage store come = come ≡ Ok (job.Coverage cal)
 GathersBy cal (run telling campaign) store come = Makes (job.Run telling cal) (RunsCome campaign store) come
 GathersBy cal (record_run campaign name) store come =
     Makes (job.Record cal) (NamedComes campaign name store) come

@@ -10,6 +10,7 @@ use Rattle.eg_outcome.specs.Changes.{Change, Stays}
 use Rattle.eg_outcome.specs.Outcomes.{LineEnds, PutsNothing}
 use Rattle.eg_outcome.specs.declared.outcome.Outcome.{Outcome}
 use Rattle.eg_desk.specs.Ends.{RowsEnd, TellsLimits}
+use Rattle.eg_desk.specs.Coverage.{TellsCoverage}
 use Rattle.eg_desk.specs.Texts.{bound_text, limits_text, answers_text}
 use Rattle.eg_play.specs.Ends.{Plays, Records, Sweeps, Tells}
 use Rattle.eg_soak.specs.Soak.{drawn_runs, soak_of}
@@ -30,6 +31,7 @@ abbrev pub Performs : Job → Change ShownLines → Change ShownSink → Change 
 Performs (job.Check cal rows) lines out ticks o = Stays ticks × RowsEnd cal.rules rows out o
 Performs (job.Bound cal) lines out ticks o = Stays ticks × TellsLimits bound_text cal out o
 Performs (job.Limits cal) lines out ticks o = Stays ticks × TellsLimits limits_text cal out o
+Performs (job.Coverage cal) lines out ticks o = Stays ticks × TellsCoverage cal out o
 Performs (job.Run telling cal inputs) lines out ticks o = Tells telling cal inputs out ticks o
 Performs (job.Record cal input) lines out ticks o = Records cal input out ticks o
 Performs (job.Sweep cal input step) lines out ticks o = Sweeps cal step input out ticks o

@@ -13,14 +13,16 @@ use Rattle.eg_app.specs.declared.command.Command.TheVariants as parsed
 use Rattle.eg_app.specs.declared.work.Work.{Work as ParsedWork}
 use Rattle.eg_app.specs.declared.work.Work.TheVariants as parsed_work
 
--- What is done by a calibration: to check the file of this name; to tell the two bounds, or all limits; to
--- run the campaign of this name, and tell its runs by the report or by a table; to record its run of that
--- name; to sweep over all classes of faults with that run, at each `step`th tick; to tell what level 2 finds
--- on lines of readings, behind the last or line by line; or to couple that run with a partner.
+-- What is done by a calibration: to check the file of this name; to tell the two bounds, all limits, or what
+-- finds each class of fault; to run the campaign of this name, and tell its runs by the report or by a table;
+-- to record its run of that name; to sweep over all classes of faults with that run, at each `step`th tick;
+-- to tell what level 2 finds on lines of readings, behind the last or line by line; or to couple that run
+-- with a partner.
 pub data Work : Type 0 where
   check : (file : List ℕ) → Work
   bound : Work
   limits : Work
+  coverage : Work
   run : Telling → (campaign : List ℕ) → Work
   record_run : (campaign : List ℕ) (name : List ℕ) → Work
   sweep : (campaign : List ℕ) (name : List ℕ) (step : ℕ) → Work
@@ -62,6 +64,7 @@ abbrev pub said_work : ParsedWork → Work
 said_work (parsed_work.Check file) = check file.now
 said_work parsed_work.Bound = bound
 said_work parsed_work.Limits = limits
+said_work parsed_work.Coverage = coverage
 said_work (parsed_work.Run telling campaign) = run telling campaign.now
 said_work (parsed_work.Record named) = record_run named.campaign.now named.name.now
 said_work (parsed_work.Sweep named step) = sweep named.campaign.now named.name.now step
@@ -124,6 +127,7 @@ step_in word = number_in 5 1 20000 word
 unfoldable pub work_of : List (List ℕ) → ℕ → Option Work
 work_of words own = if is_alone (codes "bound") words own then Some bound
     else if is_alone (codes "limits") words own then Some limits
+    else if is_alone (codes "coverage") words own then Some coverage
     else if is_alone (codes "replay") words own then Some replay
     else if is_alone (codes "signals") words own then Some signals
     else if is_on_file (codes "check") words own then Some (check (word words own))

@@ -85,6 +85,7 @@ fn gather_by<S: Store>(
         },
         Work::Bound => Ok(Job::Bound { calibration }),
         Work::Limits => Ok(Job::Limits { calibration }),
+        Work::Coverage => Ok(Job::Coverage { calibration }),
         Work::Run { telling, campaign } => match inputs_of(alloc, campaign, store) {
             Ok(inputs) => Ok(Job::Run {
                 telling,

@@ -23,6 +23,10 @@ pub(crate) enum Job {
     Limits {
         calibration: Calibration,
     },
+    /// To tell what finds each class of fault, and when.
+    Coverage {
+        calibration: Calibration,
+    },
     /// To play the runs of a campaign, and to tell them in this way.
     Run {
         telling: Telling,

@@ -7,7 +7,7 @@ ghost use Rattle.eg_app.specs.Performed.{Performs, PutsNothingBy, takes_lines};
 use crate::job::Job;
 use crate::soak::play_drawn;
 use eg_base::Sink;
-use eg_desk::{put_answers, put_bound, put_check, put_image, put_limits, put_source};
+use eg_desk::{put_answers, put_bound, put_check, put_coverage, put_image, put_limits, put_source};
 use eg_lines::Lines;
 use eg_outcome::Outcome;
 use eg_play::{put_record, put_table, put_told};
@@ -36,6 +36,7 @@ pub(crate) fn perform<L: Lines, K: Sink>(
         }
         Job::Bound { calibration } => put_bound(alloc, &calibration, out),
         Job::Limits { calibration } => put_limits(alloc, &calibration, out),
+        Job::Coverage { calibration } => put_coverage(alloc, &calibration, out),
         Job::Run {
             telling,
             calibration,

@@ -17,6 +17,8 @@ pub(crate) enum Work<'a> {
     Bound,
     /// `limits`.
     Limits,
+    /// `coverage`.
+    Coverage,
     /// `run CAMPAIGN`, and `table` and `margins` likewise.
     Run { telling: Telling, campaign: &'a str },
     /// `record CAMPAIGN RUN`.
@@ -46,6 +48,9 @@ impl<'a> Work<'a> {
         }
         if is_alone("limits", words, own) {
             return Some(Work::Limits);
+        }
+        if is_alone("coverage", words, own) {
+            return Some(Work::Coverage);
         }
         if is_alone("replay", words, own) {
             return Some(Work::Replay);
@@ -127,7 +132,12 @@ impl<'a> Work<'a> {
             Work::Record { run } | Work::Sweep { run, .. } | Work::Couple { run } => {
                 Some(run.campaign)
             }
-            Work::Check { .. } | Work::Bound | Work::Limits | Work::Replay | Work::Signals => None,
+            Work::Check { .. }
+            | Work::Bound
+            | Work::Limits
+            | Work::Coverage
+            | Work::Replay
+            | Work::Signals => None,
         }
     }
 }

@@ -1,5 +1,6 @@
 pub mod AnswersLemmas
 pub mod ExcessLemmas
 pub mod LimitLemmas
+pub mod MeansLemmas
 pub mod SourceLemmas
 mod Worked

@@ -1,8 +1,10 @@
 -- The texts of the reference calibration.
-use Rattle.std.proofs.Common.{◌≡◌, codes, Some, None, refl}
+use Rattle.std.proofs.Common.{◌≡◌, ◌++◌, codes, Some, None, refl}
 use Rattle.std.specs.Fmt.{digits}
 use Rattle.eg_values.specs.Reference.{reference_questions}
+use Rattle.eg_desk.specs.declared.coverage.CoverageTicks.{CoverageTicks}
 use Rattle.eg_desk.specs.declared.limit.Limits.{Limits}
+use Rattle.eg_desk.specs.Coverage.{lapse_off, numbers_of, case_words, within_text, off_text, hidden_text, coverage_text}
 use Rattle.eg_desk.specs.Texts.{number_or_none, limits_text, answer_lines, answers_text}
 
 abbrev some_limits : Limits
@@ -26,3 +28,39 @@ limits_known = refl
 answers_known : answers_text reference_questions ≡ codes "answer 0: 8842\nanswer 1: 55753\nanswer 2: 44807\nanswer 3: 19505\n"
 unfolding digits answer_lines
 answers_known = refl
+
+abbrev some_ticks : CoverageTicks
+some_ticks = record { pair = 5; reaction = 34; test = 40; lapse = Some 50 }
+
+coverage_known : coverage_text some_ticks
+    ≡ codes "class,case,effect,finds,within,off,hidden\n"
+    ++ codes "script,pedal apart by more than its tolerance,wrong pedal is seen,pedal,5,confirmed + 1,0\n"
+    ++ codes "script,plate apart by more than its tolerance,wrong plate is seen,plate,5,5,0\n"
+    ++ codes "script,load apart by more than its tolerance,wrong load is seen,load,5,5,0\n"
+    ++ codes "script,speed apart by more than its tolerance,wrong speed is seen,speed,5,5,0\n"
+    ++ codes "script,any pair apart within its tolerance,level 2 errs to the safe side,-,-,confirmed + 1,1\n"
+    ++ codes "script,a contact of the brake,level 2 errs to the safe side,-,-,confirmed + 1,1\n"
+    ++ codes "offset,pedal apart by more than its tolerance,wrong pedal is seen,pedal,5,confirmed + 1,0\n"
+    ++ codes "offset,plate apart by more than its tolerance,wrong plate is seen,plate,5,5,0\n"
+    ++ codes "offset,load apart by more than its tolerance,wrong load is seen,load,5,5,0\n"
+    ++ codes "offset,speed apart by more than its tolerance,wrong speed is seen,speed,5,5,0\n"
+    ++ codes "offset,any pair apart within its tolerance,level 2 errs to the safe side,-,-,confirmed + 1,1\n"
+    ++ codes "offset,a contact of the brake,level 2 errs to the safe side,-,-,confirmed + 1,1\n"
+    ++ codes "bus,any mask,raise taken as 0,-,-,confirmed + 1,1\n"
+    ++ codes "plate,any angle,torque not as ordered,-,-,confirmed + 1,1\n"
+    ++ codes "skip,any module,no answer is right,answers,34,34,0\n"
+    ++ codes "disturb,any module,no answer is right,answers,34,34,0\n"
+    ++ codes "flip,any word,a wrong word of level 2,mirror,1,1,0\n"
+    ++ codes "halt,both levels,outputs stay as they are,answers,34,34,0\n"
+    ++ codes "timing,answers outside the window,no answer is right,answers,34,34,0\n"
+    ++ codes "timing,answers inside the window,none,-,-,confirmed + 1,1\n"
+    ++ codes "wild,opens path 2 at times,cut without need,-,-,ordered + 1,1\n"
+    ++ codes "wild,never opens path 2,no cut by path 2,-,-,confirmed + 1,1\n"
+    ++ codes "path1-closed,without a reset,no cut by path 1,-,-,confirmed + 34,1\n"
+    ++ codes "path1-closed,with a reset,no cut by path 1,start,41,0,0\n"
+    ++ codes "path2-closed,without a reset,no cut by path 2,-,-,confirmed + 1,1\n"
+    ++ codes "path2-closed,with a reset,no cut by path 2,start,41,0,0\n"
+    ++ codes "path-open,either path,cut without need,-,-,0,1\n"
+    ++ codes "lapse,level 2 left out at times,late cut,-,-,excess < 50,1\n"
+unfolding digits lapse_off numbers_of case_words within_text off_text hidden_text coverage_text
+coverage_known = refl

@@ -1,5 +1,7 @@
 pub mod Check
 pub mod Limits
+pub mod Coverage
+pub mod Means
 pub mod Texts
 pub mod Ends
 pub use Rattle.eg_base.specs.Outside

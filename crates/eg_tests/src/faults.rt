@@ -23,13 +23,14 @@ const RUN_B: &[Role] = &[
 ];
 
 /// Words, and the files that a call with them reads, in their order.
-const READS: [(&str, &[Role]); 12] = [
+const READS: [(&str, &[Role]); 13] = [
     (
         "check --cal cal.toml in.csv",
         &[Role::Calibration, Role::Check],
     ),
     ("bound --cal cal.toml", &[Role::Calibration]),
     ("limits --cal cal.toml", &[Role::Calibration]),
+    ("coverage --cal cal.toml", &[Role::Calibration]),
     ("answers cal.toml", &[Role::Calibration]),
     ("run --cal cal.toml c.toml", ALL_RUNS),
     ("table --cal cal.toml c.toml", ALL_RUNS),
@@ -69,10 +70,14 @@ fn the_read_that_failed_is_told(rt: HostRuntime) -> Result<(), Fail> {
 const RECORD: &str = "record c.toml a";
 
 /// Words, and how many bytes stand where the put of a number fails: the lines before, and half of the next.
-const PUTS: [(&str, &[(u32, usize)]); 12] = [
+const PUTS: [(&str, &[(u32, usize)]); 13] = [
     ("check in.csv", &[(0, 2), (1, 5)]),
     ("bound", &[(0, 6), (1, 16), (2, 21)]),
     ("limits", &[(0, 6), (2, 26), (7, 76), (8, 84), (9, 88)]),
+    (
+        "coverage",
+        &[(0, 21), (1, 87), (15, 1163), (28, 1923), (29, 1953)],
+    ),
     ("answers cal.toml", &[(0, 7), (1, 22), (2, 30)]),
     ("run c.toml", &[(0, 29), (1, 88), (2, 131), (3, 144)]),
     ("table c.toml", &[(0, 64), (1, 142), (2, 171), (3, 186)]),

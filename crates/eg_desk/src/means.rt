@@ -1,0 +1,11 @@
+// What the numbers of `coverage` mean.
+ghost use Rattle.eg_desk.specs.Means.{NumbersMean};
+
+/// What the numbers of each row of `coverage` mean (docs/FORMATS.md, "The rows of `coverage`"), by the record
+/// of every run on the bench by that calibration, for each engine, under a valid fault of the row's class:
+/// its watch is found within `within` ticks, and the stages are off as `off` says. Where `hidden` is 1, such
+/// faults can stay hidden by each accepted calibration: all valid ones of the class, or those that the
+/// definition names; of a script within the tolerance nothing is said. It does nothing when it runs.
+pub fn numbers_mean()
+    ensures { NumbersMean }
+{}
