@@ -17,6 +17,26 @@ for threshold in 100 300 500; do
   awk -v threshold=$threshold -v least="$least" '($1 == "*" ? $2 : $1) == threshold {
     told = $1 == "*" ? $4 : $3; print threshold ": least limit " least (told == least ? ", as told" : ", and not " told) }' told
 done
+# With ramps, and with a file that has one. With a ramp something fits only by a word.
+find --thresholds 0,100 --ramps 0,50-150/50
+find --thresholds 0,100 --ramps 50-150/50 --without-lapses --write ramped.toml
+head -n 2 ramped.toml
+diff examples/reference.toml ramped.toml | grep -E '^[<>] (version|threshold|brake|fall) '
+./egasim limits --cal ramped.toml | grep -E '^(lapse|ramp) '
+tools/find examples/diesel.toml --cal examples/ramp.toml --tolerant 75 --thresholds 200
+tools/find examples/diesel.toml --cal examples/ramp.toml --tolerant 30 --thresholds 200 --without-lapses --without-held-torque
+tools/find examples/diesel.toml --cal ramped.toml --tolerant 30 --thresholds 200 --ramps 0,120 --write plain.toml
+grep -E 'version|find|^(brake|fall) ' plain.toml
+# A comment that names a version doesn't stay beside another one; and a recording that begins on a ramp.
+tools/find examples/diesel.toml --cal examples/ramp.toml --tolerant 30 --thresholds 200 --ramps 0 --write plain.toml | sed -n '$p'
+grep version plain.toml
+sed 2,1184d examples/measured.csv >begun.csv
+tools/find --recording begun.csv --cal examples/ramp.toml --tolerant 180 --thresholds 200 --without-lapses
+tools/find examples/diesel.toml --cal examples/ramp.toml --tolerant 5 --thresholds 200 --ramps 120
+sed 's/^fall = .*/fall = 0/' examples/ramp.toml >never.toml
+tools/find examples/diesel.toml --cal never.toml --tolerant 30 --ramps 0
+for ramps in 1.5 abc 50-150 20000 150-50/5 0-9000/1; do find --thresholds 100 --ramps $ramps; done
+find --thresholds 0-800/1 --ramps 1,2
 find --thresholds 100 --tolerant 10
 tools/find examples/diesel.toml --cal examples/reference.toml --tolerant 10 --thresholds 100,300
 tools/find examples/diesel.toml --cal examples/reference.toml --tolerant 300ms

@@ -9,6 +9,7 @@ tools/calibration read examples/labels.toml new.dcm examples/reference.toml 2>&1
 tools/answer new.toml
 tools/calibration diff examples/reference.toml new.toml examples/labels.toml; echo "status $?"
 tools/calibration diff examples/reference.toml examples/brake_counts.toml; echo "status $?"
+tools/calibration diff examples/reference.toml examples/ramp.toml; echo "status $?"
 tools/calibration diff examples/reference.toml examples/reference.toml; echo "status $?"
 
 # Files of other tools: lines that end with CR LF, Latin 1, a label that isn't wanted, and one that isn't there.

@@ -19,9 +19,9 @@ done
 grep -c "<code>$(./egasim table --cal examples/strict.toml examples/sweep.toml | sha256sum | sed 's/ .*//')</code>" page.html
 
 # What the verdict says of time: a tick and the fall are taken off. With D 5 the bound for lapses is that of listed faults;
-# with D 11, more than the period, it is another; and there may be none.
+# with D 11, more than the period, it is another; and there may be none, as there is with a ramp.
 verdict() { tools/report "$@" | sed -n '/"verdict"/,/<\/ul>/{s/<[^>]*>//g;/./p}'; }
-time_said() { echo "-- $*" && verdict examples/levels.toml "$@" | grep 'an excess lasts'; }
+time_said() { echo "-- $*" && verdict examples/levels.toml "$@" | grep 'an excess lasts\|No lapse\|for ever'; }
 sed '/^.torque/,/^.pairs/s/^limit = .*/limit = 11/' examples/reference.toml >slow.toml
 sed '/^.answers/,/^.question/s/^up = .*/up = 1/; /^.answers/,/^.question/s/^limit = .*/limit = 3/' slow.toml >unbounded.toml
 time_said --tolerant 39
@@ -29,6 +29,14 @@ time_said --tolerant 40 --falls 1
 time_said --tolerant 40 --falls 2
 time_said --tolerant 119 --falls 0 --cal slow.toml
 time_said --tolerant 120 --falls 0 --cal unbounded.toml
+time_said --tolerant 85 --falls 0 --cal examples/ramp.toml
+time_said --tolerant 86 --falls 0 --cal examples/ramp.toml --without-lapses
+time_said --tolerant 39 --falls 0 --cal examples/ramp.toml --without-held-torque --without-lapses --tick 10ms
+sed 's/^fall = .*/fall = 0/' examples/ramp.toml >never.toml
+time_said --tolerant 120 --falls 0 --cal never.toml --without-held-torque --without-lapses
+sed 2,1184d examples/measured.csv >begun.csv
+sed '/^.torque/,/^.pairs/s/^limit = .*/limit = 2/' examples/ramp.toml >ramp.toml
+tools/report examples/levels.toml --cal ramp.toml --recording begun.csv | grep '<p>begun'
 
 # Sound drives, which are declared so by a word or a comment; their room; missed ticks; no excess; questions; evidence.
 points() { echo "-- $*" && verdict "$@" | grep -v 'an excess lasts\|questions are blind' | cut -d, -f1-4; }

@@ -3,7 +3,7 @@ _egasim() {
   local word=${COMP_WORDS[COMP_CWORD]} command=${COMP_WORDS[1]} place=$((COMP_CWORD - 1)) campaign names ending=toml
   COMPREPLY=()
   if [ "$place" -eq 0 ]; then
-    mapfile -t COMPREPLY < <(compgen -W 'run table margins record couple sweep soak check replay signals bound limits answers asm dis --help --version' -- "$word")
+    mapfile -t COMPREPLY < <(compgen -W 'run table margins record couple sweep soak check replay signals bound limits coverage answers asm dis --help --version' -- "$word")
     return
   fi
   # The place is counted without --cal and its file.
@@ -24,13 +24,13 @@ _egasim() {
     mapfile -t COMPREPLY < <(compgen -W "$names" -- "$word")
     return
     ;;
-  bound:1 | limits:1 | replay:1 | signals:1) ending= ;;
+  bound:1 | limits:1 | coverage:1 | replay:1 | signals:1) ending= ;;
   *) return ;;
   esac
   compopt -o filenames 2>/dev/null
   [ -z "$ending" ] || mapfile -t COMPREPLY < <(compgen -f -X "!*.$ending" -- "$word"; compgen -d -- "$word")
   case $command:$place in
-  run:1 | table:1 | margins:1 | record:1 | couple:1 | sweep:1 | check:1 | bound:1 | limits:1 | replay:1 | signals:1)
+  run:1 | table:1 | margins:1 | record:1 | couple:1 | sweep:1 | check:1 | bound:1 | limits:1 | coverage:1 | replay:1 | signals:1)
     if [ "$COMP_CWORD" -eq 2 ]; then
       mapfile -t -O "${#COMPREPLY[@]}" COMPREPLY < <(compgen -W --cal -- "$word")
     fi

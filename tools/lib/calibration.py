@@ -24,6 +24,12 @@ def threshold_of(calibration):
     return threshold
 
 
+def has_ramp(calibration):
+    """Whether the permitted torque comes down a ramp by a calibration file: it does by version 3 of the format."""
+    permit = calibration_of(calibration).get("permit")
+    return isinstance(permit, dict) and "fall" in permit
+
+
 def torque_weights_of(calibration):
     """How the excess of torque is debounced by a calibration file or the reference calibration: up, down and limit."""
     torque = calibration_of(calibration).get("torque")

@@ -13,7 +13,7 @@ class Campaign:
     """A campaign that grows by runs as long as it keeps the limits."""
 
     def __init__(self):
-        self.texts, self.rows, self.inputs, self.ticks, self.bytes = [], [], set(), 0, 0
+        self.texts, self.rows, self.inputs, self.ticks, self.bytes = [], [], {}, 0, 0  # inputs in the order of their use
 
     def has_room(self, text, ticks):
         return (len(self.texts) < MOST_RUNS and self.ticks + ticks <= MOST_TICKS
@@ -22,13 +22,18 @@ class Campaign:
     def add(self, text, row, inputs, ticks):
         self.texts.append(text)
         self.rows.append(row)
-        self.inputs.update(inputs)
+        self.inputs.update(dict.fromkeys(inputs))
         self.ticks += ticks
         self.bytes += len(text)
 
 
 def run_text(run):
-    return "[[run]]\n" + "".join(f"{key} = {toml_text(value)}\n" for key, value in run.items() if value is not None)
+    return f"[[run]]\n{keys_text(run)}"
+
+
+def keys_text(keys):
+    """The lines of keys of a run; one whose value is None isn't there."""
+    return "".join(f"{key} = {toml_text(value)}\n" for key, value in keys.items() if value is not None)
 
 
 def runs_of_campaign(campaign):

@@ -53,7 +53,8 @@ def text(value):
 
 
 def physical(scale, old, new):
-    return f" ({scale.said(old)} is now {scale.said(new)})" if scale.unit or scale.factor != 1 else ""
+    said = " is now ".join(scale.said(one) for one in (old, new) if one is not None)
+    return f" ({said})" if scale.unit or scale.factor != 1 else ""
 
 
 def form(value):

@@ -1,6 +1,5 @@
 """Traces and recordings that are made of measurements: their columns, where they are cut, and what is told of them."""
 
-import io
 import itertools
 import os
 import re

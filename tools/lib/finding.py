@@ -1,8 +1,9 @@
-"""The least limits by which no drive of a campaign, and no recording, is cut, for each threshold; and times that fit.
+"""The least limits by which no drive of a campaign, and no recording, is cut, for each threshold and each ramp; and times
+that fit.
 
 What the limits come to isn't tried out: with limits that are never reached the program tells the greatest weight of each
 run, and a watch finds something exactly if its weight reaches its limit. So one more than the greatest weight is the least
-limit, of each threshold that is played."""
+limit, of each threshold and ramp that is played."""
 
 import csv
 import io
@@ -17,23 +18,27 @@ from dataclasses import dataclass, field
 from lib.answering import with_answers
 from lib.calibration import WATCHES
 from lib.files import read
+from lib.placing import with_ramp
 from lib.program import program
 from lib.putting import parsed, with_numbers
 from lib.tool import TOOL, as_noted, fail
-from lib.verdicts import idle_by
+from lib.verdicts import WITHOUT_LAPSES, held_of, idle_by, is_on_first_ramp
 
 OPEN = 10000  # a limit that is never reached, and the greatest that a file may have
 PAIRS = [watch for watch, table in WATCHES.items() if table == "pairs"]
 LEAST_PERIOD, MOST_PERIOD = 2, 100
 TIMES = ("period", "first", "last", "send", "limit")  # keys of the table `answers`
+NO_BOUND = f"under lapses no bound holds with a ramp ({WITHOUT_LAPSES})"
 REPLAYED = re.compile(r"(\w+) (?:none|at (\d+)); greatest (\d+) of (\d+)")
 
 
 @dataclass
 class Row:
-    """What one threshold comes to."""
+    """What one threshold comes to, with a ramp or without."""
 
     threshold: int
+    fall: int | None = None  # 0 without a ramp; None where there is no ramp to name
+    held: int = 0  # the ramp's ticks that count, before a held torque is an excess
     weight: int = 0  # the greatest of the torque
     pairs: int = 0  # the greatest of a pair
     binds: str = ""  # the drive that has it
@@ -46,6 +51,16 @@ class Row:
     hindrance: str = ""  # why no times fit
     far: tuple = ()  # by how much they don't; the least is the nearest
 
+    def said(self):
+        return f"threshold {self.threshold}{f', fall {self.fall}' if self.fall else ''}"
+
+    def lasts(self):
+        """The ticks that are compared with those that are left: an excess, and with a ramp those from the fall of the demand on."""
+        return int(self.limits["stretch"]) + self.held
+
+    def judged(self):
+        return self.hindrance or "fits"
+
 
 class Search:
     """A calibration to start from, and what is to be let through, with all that is asked of the result."""
@@ -56,6 +71,9 @@ class Search:
         self.text = read(asked.cal).decode()
         self.start, self.numbers = parsed(asked.cal, self.text), itertools.count(1)
         self.drives = asked.drives
+        if self.start["permit"].get("fall") == 0:
+            fail(f"{asked.cal}: by permit.fall = 0 the permitted torque never falls: the opposite of no ramp, by which it falls at once "
+                 "(version = 2, without that key)")
 
     # The program
 
@@ -112,10 +130,11 @@ class Search:
 
     # A threshold
 
-    def text_with(self, threshold, limit, pairs_limit, times=None):
-        numbers = {("permit", "threshold"): threshold, ("torque", "limit"): limit, ("pairs", "limit"): pairs_limit}
+    def text_with(self, row, limit, pairs_limit, times=None):
+        numbers = {("permit", "threshold"): row.threshold, ("torque", "limit"): limit, ("pairs", "limit"): pairs_limit}
         numbers |= {("answers", key): number for key, number in (times or {}).items()}
-        return self.with_answers(with_numbers(self.name, self.text, numbers))
+        text = self.text if row.fall == self.start["permit"].get("fall") else with_ramp(self.name, self.text, row.fall)
+        return self.with_answers(with_numbers(self.name, text, numbers))
 
     def with_answers(self, text):
         return with_answers(self.name, text, lambda text: self.call("answers", self.put(text)))
@@ -124,19 +143,20 @@ class Search:
         """The least limit that lets this weight through and leaves the room that is asked."""
         return max(weight + 1, -(-weight * 100 // (100 - self.asked.room)))
 
-    def row_of(self, threshold):
-        """What a threshold comes to: the weights by open limits, the least limits, and times that fit."""
-        row, path = Row(threshold), self.put(self.text_with(threshold, OPEN, OPEN))
-        row.weights = self.weights_by(path)
+    def row_of(self, threshold, fall):
+        """What a threshold comes to, and a ramp: the weights by open limits, the least limits, and times that fit."""
+        row = Row(threshold, fall)
+        path = self.put(self.text_with(row, OPEN, OPEN))
+        row.held, row.weights = held_of(self.limits_by(path), self.asked.said), self.weights_by(path)
         for name, found in self.cuts_by(path).items():
             if found:
-                fail(f"{name}: {found[0]} finds something at {found[1]} by the threshold {threshold}, whatever the limits are")
+                fail(f"{name}: {found[0]} finds something at {found[1]} by the {row.said()}, whatever the limits are")
         row.weight = max(weights["torque"] for weights in row.weights.values())
         row.pairs = max(weights[pair] for weights in row.weights.values() for pair in PAIRS)
         row.limit = self.least_of(row.weight)
         row.pairs_limit = max(self.start["pairs"]["limit"], self.least_of(row.pairs))
         if max(row.limit, row.pairs_limit) > OPEN:
-            fail(f"threshold {threshold}: a weight of {max(row.weight, row.pairs)} needs a limit above {OPEN}")
+            fail(f"{row.said()}: a weight of {max(row.weight, row.pairs)} needs a limit above {OPEN}")
         self.bind(row)
         self.fit(row)
         return row
@@ -146,9 +166,9 @@ class Search:
         if not row.weight:
             return
         row.binds = next(name for name, weights in row.weights.items() if weights["torque"] == row.weight)
-        found = self.cuts_by(self.put(self.text_with(row.threshold, row.weight, OPEN)))[row.binds]
+        found = self.cuts_by(self.put(self.text_with(row, row.weight, OPEN)))[row.binds]
         if not found or found[0] != "torque":
-            fail(f"{row.binds}: the limit {row.weight} should cut it by the threshold {row.threshold}, and doesn't")
+            fail(f"{row.binds}: the limit {row.weight} should cut it by the {row.said()}, and doesn't")
         row.tick = found[1]
 
     # Times
@@ -156,13 +176,12 @@ class Search:
     def fit(self, row):
         """Finds the longest period by which an excess ends in time, and misses are tolerated as asked; where there is none,
         the one that comes nearest."""
-        own = {key: self.start["answers"][key] for key in TIMES}
-        tries = []
+        own, tries = {key: self.start["answers"][key] for key in TIMES}, []
         for times in [own] if self.asked.keep_times else self.times_for(row):
-            limits = self.limits_by(self.put(self.text_with(row.threshold, row.limit, row.pairs_limit, times)))
-            hindrance, far = self.hindrance_of(limits, times)
+            limits = self.limits_by(self.put(self.text_with(row, row.limit, row.pairs_limit, times)))
+            hindrance, far = self.hindrance_of(row, limits, times)
             tries.append((far, hindrance, limits, times))
-            if not hindrance:
+            if hindrance in ("", NO_BOUND):
                 break
         row.far, row.hindrance, row.limits, row.times = min(tries, key=lambda one: one[0])
 
@@ -171,18 +190,20 @@ class Search:
         answers, wrong = self.start["answers"], 2 * self.asked.misses + 1
         up, lead = answers["up"], answers["send"] - answers["first"]
         confirms = -(-row.limit // self.start["torque"]["up"])  # D
-        longest = min(MOST_PERIOD, (self.asked.left - confirms + 1) // wrong)
+        longest = min(MOST_PERIOD, (self.asked.left - row.held - confirms + 1) // wrong)
         for period in range(max(longest, LEAST_PERIOD), LEAST_PERIOD - 1, -1):
             last = period - 1
             yield {"period": period, "first": max(0, last - lead), "last": last, "send": last, "limit": wrong * up}
 
-    def hindrance_of(self, limits, times):
+    def hindrance_of(self, row, limits, times):
         """Which number keeps these times from fitting, or nothing; and by how much, so that fewer are nearer."""
-        left, spacing = self.asked.left, self.asked.spacing
-        over = int(limits["stretch"]) - left
-        if over > 0:
-            return f"stretch {limits['stretch']} is above {left}", (3, over)
-        if int(limits["excess"]) > times["period"]:
+        left, spacing, asks_lapses = self.asked.left, self.asked.spacing, WITHOUT_LAPSES not in self.asked.said
+        lasts = int(limits["stretch"]) + row.held
+        if lasts > left:
+            return f"{'with the ramp' if row.held else 'stretch'} {lasts} is above {left}", (3, lasts - left)
+        if row.fall and asks_lapses:
+            return NO_BOUND, (2, 0)
+        if int(limits["excess"]) > times["period"] and asks_lapses:
             if limits["lapse"] == "none":
                 return "under lapses no bound is known: lapse none", (2, 0)
             if int(limits["lapse"]) - 1 > left:
@@ -191,25 +212,30 @@ class Search:
             return f"spacing {limits['spacing']} is above {spacing}", (1, 0)
         return "", (0, 0)
 
-    # All thresholds
+    # All thresholds and ramps
 
     def rows(self):
-        """The rows of all thresholds, played side by side."""
-        thresholds = self.asked.thresholds
+        """The rows of all thresholds, of each those of all ramps, played side by side."""
+        ramps = self.asked.ramps or [self.start["permit"].get("fall")]
+        thresholds, falls = zip(*itertools.product(self.asked.thresholds, ramps))
         with ThreadPoolExecutor(os.cpu_count() or 1) as pool:
             rows = []
-            for row in pool.map(self.row_of, thresholds):
+            for row in pool.map(self.row_of, thresholds, falls):
                 rows.append(row)
                 self.tell_progress(len(rows), len(thresholds))
             return rows
 
+    def on_first_ramp(self, rows):
+        """Of each recording that binds at a tick at which a ramp from before it may go on, the first row that it binds."""
+        rows = [row for row in rows if row.fall and row.binds in self.asked.recordings and is_on_first_ramp(row.tick, row.limits)]
+        return {row.binds: row for row in reversed(rows)}
+
     def tell_progress(self, done, total):
         if sys.stderr.isatty() and not self.asked.verbose:
-            print(f"\r{TOOL}: {done} of {total} thresholds", end="\n" if done == total else "", file=sys.stderr, flush=True)
+            print(f"\r{TOOL}: {done} of {total} rows", end="\n" if done == total else "", file=sys.stderr, flush=True)
 
 
 def is_on_front(row, rows):
-    """Whether no other row has less threshold and less stretch, one of them truly less."""
-    here = row.threshold, int(row.limits["stretch"])
-    there = [(other.threshold, int(other.limits["stretch"])) for other in rows]
+    """Whether no other row has less threshold and lasts less, one of them truly less."""
+    here, there = (row.threshold, row.lasts()), [(other.threshold, other.lasts()) for other in rows]
     return not any(other != here and other[0] <= here[0] and other[1] <= here[1] for other in there)

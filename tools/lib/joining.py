@@ -6,28 +6,48 @@ import itertools
 import os
 import sys
 
-from lib.files import read, sum_of_file, text_of, written
+from lib.files import read, sum_of, sum_of_file, text_of, written
+from lib.keeping import calls_kept, files_of
 from lib.runs import lacking
-from lib.studies import COLUMNS, called
+from lib.studies import COLUMNS, called, program_of, words_of
 from lib.tool import as_noted, fail
 from lib.units import Units, units_of
 
 
-def join(path, tick=None):
-    """Writes study.csv of the tables that count, prints their summary, and tells which campaigns have none."""
+def join(path, tick=None, folder=None):
+    """Writes study.csv of the tables that count, prints their summary, and tells which campaigns have none. A study that has
+    all is kept in a folder, if one is named."""
     refuse_changes(path)
     units = units_of(tick, [os.path.join(path, "inputs", "calibration.toml")])
     numbers = sorted(name[:-5] for name in os.listdir(f"{path}/campaigns") if name.endswith(".toml"))
     faults = {number: fault_of_table(path, number) for number in numbers}
     good = [number for number in numbers if not faults[number]]
-    bounds = bounds_of(path)
-    if good:
-        print_summary(write_joined(path, good), bounds, units)
+    with calls_kept(folder, program_of(path), path) as kept:
+        bounds = bounds_of(path)
+        if good:
+            print_summary(write_joined(path, good), bounds, units)
+        for number in numbers:
+            if faults[number]:
+                print(as_noted(f"campaign {number}: {faults[number]}"), file=sys.stderr)
+        if len(good) < len(numbers):
+            fail(f"{path}/study.csv has {len(good)} of {len(numbers)} campaigns" if good else "no campaign has a table")
+        said = kept and keep_tables(kept, path, good)
+    if said:
+        print(as_noted(f"kept in {said}"))
+
+
+def keep_tables(kept, path, numbers):
+    """Keeps each table as what the program printed, with the checksums of what it was made from, and says where."""
     for number in numbers:
-        if faults[number]:
-            print(as_noted(f"campaign {number}: {faults[number]}"), file=sys.stderr)
-    if len(good) < len(numbers):
-        fail(f"{path}/study.csv has {len(good)} of {len(numbers)} campaigns" if good else "no campaign has a table")
+        table, stamp = (read(os.path.join(path, "tables", f"{number}.{ending}")) for ending in ("csv", "sum"))
+        _, *sums, own = stamp.decode().splitlines(keepends=True)
+        if own != f"{sum_of(table)}  -\n":
+            fail(f"{path}/tables/{number}.csv changed meanwhile")
+        words = words_of(path, "table", f"campaigns/{number}.toml")
+        if not any(line.endswith(f"  {words[-1]}\n") for line in sums[:len(words) - 1]):  # else the drives stand first
+            fail(f"{path} is of older tools; to keep it, write the study anew")
+        kept.add(files_of(words, "".join(sums), table))
+    return kept.sealed(["MANIFEST", "study.csv"])
 
 
 def refuse_changes(path):
@@ -68,11 +88,12 @@ def write_joined(path, numbers):
         for number in numbers:
             for plan, row in rows_of(path, number):
                 if not writer:
-                    names = [name for name in row if name != "run"]
                     writer = csv.writer(codecs.getwriter("utf-8")(file), lineterminator="\n")
-                    writer.writerow(["run", *COLUMNS, *names])
-                writer.writerow([*plan.values(), *(row[name] for name in names)])
-                classes.setdefault(row["class"], Summary()).add(row)
+                    writer.writerow(["run", *COLUMNS, *list(row)[1:]])
+                writer.writerow([*plan.values(), *list(row.values())[1:]])
+                if row["class"] not in classes:
+                    classes[row["class"]] = Summary()
+                classes[row["class"]].add(row)
     return classes
 
 
@@ -80,10 +101,12 @@ def rows_of(path, number):
     """The rows of a campaign: what the plan has, and what the table has, both by their columns."""
     with (open(f"{path}/campaigns/{number}.csv", encoding="utf-8", newline="") as planned,
           open(f"{path}/tables/{number}.csv", encoding="utf-8", newline="") as played):
-        for plan, row in itertools.zip_longest(csv.DictReader(planned), csv.DictReader(played)):
-            if not plan or not row or plan["run"] != row["run"]:
+        planned, played = csv.reader(planned), csv.reader(played)
+        of_plan, of_table = next(planned, []), next(played, [])
+        for plan, row in itertools.zip_longest(planned, played):
+            if not plan or not row or plan[0] != row[0] or len(row) != len(of_table):
                 fail(f"campaign {number}: the table has other runs than the plan")
-            yield plan, row
+            yield dict(zip(of_plan, plan)), dict(zip(of_table, row))
 
 
 class Summary:

@@ -1,81 +1,151 @@
-"""What tools/keep keeps of a command of the program, and how that is made again."""
+"""What is kept of calls of the program, of one by tools/keep or of all those of a tool by its --keep, and how they are made
+again."""
 
+import contextlib
 import datetime
+import functools
+import itertools
 import os
+import re
 import shlex
-import subprocess
 import sys
 
-from lib.files import read, room_in, sum_of, within_bounds
-from lib.program import program, version_lines
-from lib.toml import toml_of
-from lib.tool import as_noted, fail
+from lib.files import read, room_in, sum_of, sum_of_file, text_in, within_bounds
+from lib.program import CALLS, program, run, version_lines
+from lib.toml import toml_in
+from lib.tool import TOOL, as_noted, fail
 
 ON_INPUT = ("replay", "signals", "couple")  # commands that read standard input
 # What a command reads of the runs of its campaign: of all, or of the one that it names.
 OF_ALL, OF_ONE = ("run", "table", "margins"), ("record", "sweep", "couple")
-COMPARED = ("version", "read.sum", "status", "notes", "output")
-SUMS = "kept.sum"
+COMPARED = ("read.sum", "status", "notes", "output")  # of each call, behind the version
+SUMS, NAME = "kept.sum", re.compile(r"(?:[0-9]{5,}/)?[a-z]+(?:\.sum)?")  # a name that stands there
+
+
+# Made
+
+
+class Kept:
+    """A folder that is kept, while it is made. `way` is the program, `place` the folder in which it is called."""
+
+    def __init__(self, name, room, way, place):
+        self.name, self.room, self.way, self.place, self.sums, self.calls = name, room, way, place, {}, 0
+
+    def put(self, name, content):
+        with open(os.path.join(self.room, name), "wb") as file:
+            file.write(content)
+        self.sums[name] = sum_of(content)
+
+    def call(self, words, given=b""):
+        """Calls the program, and keeps that in a folder of its own."""
+        done, files = made(words, given, self.way, self.place)
+        self.add(files)
+        return done
+
+    def add(self, files):
+        """Keeps the files of a call in a folder of its own."""
+        self.calls += 1
+        os.mkdir(os.path.join(self.room, f"{self.calls:05}"))
+        for name, content in files.items():
+            self.put(f"{self.calls:05}/{name}", content)
+
+    def sealed(self, names=()):
+        """The folder and its checksum, that of its checksums of all files, as a page or a verdict tells them. The names are of
+        files that the tool reads itself. Nothing more is kept from there on."""
+        if names:
+            self.put("tool.sum", lines_of(names, self.place).encode())
+        self.put(SUMS, "".join(f"{total}  {name}\n" for name, total in self.sums.items()).encode())
+        return f"{self.name}, whose {SUMS} has the SHA-256 {self.sums[SUMS]}"
+
+
+@contextlib.contextmanager
+def keeping(name, way=None, place=""):
+    """A folder that has version and date, and gets its name when all else is there."""
+    if os.path.lexists(name):
+        fail(f"{name} is there already")
+    way = way or program()
+    total = sum_of_file(way)
+    with room_in(os.path.dirname(os.path.abspath(name))) as room:
+        kept = Kept(name, os.path.join(room, "kept"), way, place)
+        os.mkdir(kept.room)
+        kept.put("version", version(way))
+        kept.put("date", datetime.datetime.now(datetime.timezone.utc).strftime("%Y-%m-%d %H:%M:%S UTC\n").encode())
+        yield kept
+        if SUMS not in kept.sums:
+            kept.sealed()
+        if sum_of_file(way) != total:
+            fail("the program changed meanwhile")
+        os.rename(kept.room, name)
+
+
+@contextlib.contextmanager
+def calls_kept(name, way=None, place=""):
+    """A folder with each call of the program that the tool makes meanwhile (program.call); None where none is named."""
+    if name is None:
+        yield None
+        return
+    with keeping(name, way, place) as kept:
+        kept.put("tool", os.fsencode(shlex.join([TOOL, *sys.argv[1:]]) + "\n"))
+        if place:
+            kept.put("place", os.fsencode(f"{place}\n"))
+        CALLS["kept"] = kept
+        try:
+            yield kept
+        finally:
+            CALLS["kept"] = None
 
 
 def keep(folder, words):
     """Runs a command, and makes the folder."""
-    if os.path.lexists(folder):
-        fail(f"{folder} is there already")
-    given = b""
-    if words[0] in ON_INPUT:
-        given = within_bounds("standard input", sys.stdin.buffer) if sys.stdin else fail("standard input is closed")
-    files = made(words, given)
-    files["date"] = datetime.datetime.now(datetime.timezone.utc).strftime("%Y-%m-%d %H:%M:%S UTC\n").encode()
-    files[SUMS] = "".join(f"{sum_of(content)}  {name}\n" for name, content in files.items()).encode()
-    with room_in(os.path.dirname(os.path.abspath(folder))) as room:
-        whole = os.path.join(room, "kept")
-        os.mkdir(whole)
+    with keeping(folder) as kept:
+        given = b""
+        if words[0] in ON_INPUT:
+            given = within_bounds("standard input", sys.stdin.buffer) if sys.stdin else fail("standard input is closed")
+        done, files = made(words, given, kept.way)
         for name, content in files.items():
-            with open(os.path.join(whole, name), "wb") as file:
-                file.write(content)
-        os.rename(whole, folder)
-    print(as_noted(f"{folder}: {files['command'].decode().strip()}: status {files['status'].decode().strip()}"))
+            kept.put(name, content)
+    print(as_noted(f"{folder}: {shlex.join(['egasim', *words])}: status {done.returncode}"))
 
 
-def again(folder):
-    """Runs a kept command again, and tells what is otherwise."""
-    files = kept_in(folder)
-    words = shlex.split(files["command"].decode())[1:]
-    new, differences = made(words, files.get("input", b"")), []
-    for name in COMPARED:
-        if new[name] != files[name]:
-            differences.append(f"{name}: {difference(files[name], new[name])}")
-    print(as_noted(f"{folder}: {files['command'].decode().strip()}: {'otherwise' if differences else 'the same'}"))
-    for line in differences:
-        print(as_noted(line))
-    if differences:
-        sys.exit(1)
+def version(way):
+    return "".join(f"{line}\n" for line in version_lines(way)).encode()
 
 
-def made(words, given):
-    """Runs a command: what is kept of it, by the names of the files."""
-    files = {"command": (shlex.join(["egasim", *words]) + "\n").encode(),
-             "version": "".join(f"{line}\n" for line in version_lines()).encode()}
-    sums = sums_of(words, False)
-    done = subprocess.run([program(), *words], input=given, capture_output=True, check=False)
-    if sums_of(words, done.returncode == 0) != sums:
+def made(words, given, way, place=""):
+    """Runs a command: how that ended, and what is kept of it, by the names of the files."""
+    sums = sums_of(words, False, place)
+    done = run(words, given, way, place)
+    if sums_of(words, done.returncode == 0, place) != sums:
         fail("a file that the command reads changed meanwhile")
-    files |= {"read.sum": sums.encode(), "status": f"{done.returncode}\n".encode(), "output": done.stdout, "notes": done.stderr}
+    return done, files_of(words, sums, done.stdout, done.stderr, done.returncode, given)
+
+
+def files_of(words, sums, output, notes=b"", status=0, given=b""):
+    """What is kept of a command that was run, by the names of the files."""
+    files = {"command": (shlex.join(["egasim", *words]) + "\n").encode(), "read.sum": sums.encode(),
+             "status": f"{status}\n".encode(), "output": output, "notes": notes}
     return files | ({"input": given} if words[0] in ON_INPUT else {})
 
 
-def sums_of(words, is_taken):
-    """A line for each file that a command reads, which has its checksum, or says that there is none. `is_taken` says that
-    the program took all of them."""
+# What a command reads
+
+
+def sums_of(words, is_taken, place=""):
+    """The lines of the files that a command reads. `is_taken` says that the program took all of them."""
+    return lines_of(names_of(words, is_taken, place), place)
+
+
+def lines_of(names, place):
+    """A line for each file, which has its checksum, or says that there is none."""
     lines = []
-    for name in dict.fromkeys(names_of(words, is_taken)):
-        total = sum_of(read(name)) if os.path.isfile(name) else "no file"
+    for name in dict.fromkeys(names):
+        path = os.path.join(place, name)
+        total = sum_of(read(path)) if os.path.isfile(path) else "no file"
         lines.append(as_noted(f"{total}  {name}") + "\n")
     return "".join(lines)
 
 
-def names_of(words, is_taken):
+def names_of(words, is_taken, place=""):
     """The files that a command reads: those of its words, and then those that the campaign names."""
     command, *rest = words
     if rest[:1] == ["--cal"]:
@@ -85,41 +155,88 @@ def names_of(words, is_taken):
         return
     yield rest[0]
     if command in OF_ALL or command in OF_ONE:
-        for run in runs_of(rest[0], is_taken):
-            if command in OF_ALL or [run.get("name")] == rest[1:2]:
+        for run_of in runs_of(os.path.join(place, rest[0]), is_taken):
+            if command in OF_ALL or [run_of.get("name")] == rest[1:2]:
                 keys = ("image",) if command == "couple" else ("trace", "image")
-                yield from (run[key] for key in keys if isinstance(run.get(key), str))
+                yield from (run_of[key] for key in keys if isinstance(run_of.get(key), str))
 
 
 def runs_of(campaign, is_taken):
     """The runs of a campaign. One that is refused may have none, or others."""
     try:
-        runs = toml_of(campaign).get("run") if os.path.isfile(campaign) else None
+        runs = runs_in(campaign, read(campaign)) if os.path.isfile(campaign) else None
     except SystemExit:
         if is_taken:
             raise
         runs = None
-    return [run for run in runs if isinstance(run, dict)] if isinstance(runs, list) else []
+    return [one for one in runs if isinstance(one, dict)] if isinstance(runs, list) else []
 
 
-def kept_in(folder):
-    """The files of a folder that was kept, if they are as they were made."""
-    files = {}
-    for line in read(os.path.join(folder, SUMS)).decode().splitlines():
+@functools.lru_cache(maxsize=1)
+def runs_in(campaign, content):
+    """What a campaign of this content has for its runs. The next call mostly reads the same one."""
+    return toml_in(campaign, text_in(campaign, content)).get("run")
+
+
+# Made again
+
+
+def again(folder):
+    """Makes what is kept in a folder again, and tells what is otherwise."""
+    calls, way = calls_in(folder), program()
+    top = calls[""]
+    place = os.fsdecode(read(os.path.join(folder, "place"))).removesuffix("\n") if "place" in top else ""
+    new = {"version": version(way)}
+    if "tool.sum" in top:
+        lines = read(os.path.join(folder, "tool.sum")).decode().splitlines()
+        new["tool.sum"] = lines_of((line.partition("  ")[2] for line in lines), place).encode()
+    told = list(differences(folder, new))
+    parts = sorted(filter(None, calls)) or [""]
+    for part in parts:
+        path = os.path.join(folder, part)
+        command = read(os.path.join(path, "command")).decode().strip()
+        given = read(os.path.join(path, "input")) if "input" in calls[part] else b""
+        _, new = made(shlex.split(command)[1:], given, way, place)
+        found = differences(path, {name: new[name] for name in COMPARED})
+        told += [f"{part}: {command}: {line}" if part else line for line in found]
+    said = f"{len(parts)} calls of {os.fsdecode(read(os.path.join(folder, 'tool'))).strip()}" if "tool" in top else command
+    print(as_noted(f"{folder}: {said}: {'otherwise' if told else 'the same'}"))
+    for line in told:
+        print(as_noted(line))
+    if told:
+        sys.exit(1)
+
+
+def calls_in(folder):
+    """The files of a kept folder, if all are as they were made: by the folder of each call, and "" for what stands above."""
+    calls, sums = {"": set()}, os.path.join(folder, SUMS)
+    for line in read(sums).decode().splitlines():
         total, _, name = line.partition("  ")
-        if os.path.basename(name) != name:
-            fail(f"{os.path.join(folder, SUMS)} isn't as it was made")
-        files[name] = read(os.path.join(folder, name))
-        if sum_of(files[name]) != total:
+        if not NAME.fullmatch(name):
+            fail(f"{sums} isn't as it was made")
+        if sum_of(read(os.path.join(folder, name))) != total:
             fail(f"{os.path.join(folder, name)} isn't as it was made")
-    missing = [name for name in ("command", *COMPARED) if name not in files]
-    return files if not missing else fail(f"{os.path.join(folder, SUMS)} lacks {missing[0]}")
+        calls.setdefault(os.path.dirname(name), set()).add(os.path.basename(name))
+    wanted = [os.path.join(part, name) for part in sorted(filter(None, calls)) or [""] for name in ("command", *COMPARED)]
+    for name in [*wanted, "version"]:
+        if os.path.basename(name) not in calls[os.path.dirname(name)]:
+            fail(f"{sums} lacks {name}")
+    return calls
 
 
-def difference(old, new):
-    """The first line that is otherwise, of both."""
-    pairs = zip([*old.splitlines(), b""], [*new.splitlines(), b""])
+def differences(folder, new):
+    """What is otherwise of these files of a folder: of checksums each line, of others the first."""
+    for name, content in new.items():
+        lines = differing(read(os.path.join(folder, name)), content)
+        yield from (f"{name}: {line}" for line in (lines if name.endswith(".sum") else itertools.islice(lines, 1)))
+
+
+def differing(old, new):
+    """The lines that are otherwise, of both."""
+    pairs, is_told = itertools.zip_longest(old.splitlines(), new.splitlines(), fillvalue=b""), False
     for number, (one, other) in enumerate(pairs, 1):
         if one != other:
-            return f"line {number} was {one.decode(errors='replace')!r}, and is {other.decode(errors='replace')!r}"
-    return "an end of a line is otherwise"
+            yield f"line {number} was {one.decode(errors='replace')!r}, and is {other.decode(errors='replace')!r}"
+            is_told = True
+    if old != new and not is_told:
+        yield "an end of a line is otherwise"

@@ -16,6 +16,7 @@ from lib.units import decimal
 # The keys of a calibration with what a whole number is worth, in which unit (docs/FORMATS.md, "Calibration files").
 SHARE, TORQUE, SPEED, WEIGHTS = (Fraction(1, 10), "%"), (Fraction(1, 10), "Nm"), (Fraction(1), "rpm"), ("up", "down", "limit")
 WORTH = {"permit.pedal": SHARE, "permit.speed": SPEED, "permit.table": TORQUE, "permit.threshold": TORQUE, "permit.brake": None,
+         "permit.fall": TORQUE,
          "torque.kt": TORQUE, **{f"torque.{key}": None for key in WEIGHTS},
          "pairs.pedal": SHARE, "pairs.plate": SHARE, "pairs.load": SHARE, "pairs.speed": SPEED,
          **{f"pairs.{key}": None for key in WEIGHTS},

@@ -1,4 +1,4 @@
-"""Other numbers for the keys of a calibration file, put into its text. Every other byte stays as it is."""
+"""Other numbers for the keys of a calibration file, and a ramp, put into its text. Every other byte stays as it is."""
 
 import re
 
@@ -23,6 +23,42 @@ def with_values(name, values):
         held[table][inner] = value
     new = replaced(text, words)
     return new if parsed(name, new) == held else fail(f"{name}: a key isn't written as expected; put the values in by hand")
+
+
+def with_ramp(name, text, fall):
+    """The text of a calibration file with this permit.fall, by version 3 of the format; with 0 one without a ramp."""
+    held, places, words = parsed(name, text), dict(spans(text)), {}
+    keys = {"brake": held["permit"].get("brake", False), "fall": fall}
+    if not {"version", "permit.threshold", *(f"permit.{key}" for key in keys if key in held["permit"])} <= set(places):
+        fail(f"{name}: a key isn't written as expected; put permit.fall in by hand")
+    if fall:
+        held["version"], held["permit"] = 3, {**held["permit"], **keys}
+        missing = [key for key in keys if f"permit.{key}" not in places]
+        words = {line_behind(text, places["permit.threshold"]): new_lines(text, places["permit.threshold"], keys, missing)}
+        words |= {places[f"permit.{key}"]: toml_text(value) for key, value in keys.items() if key not in missing}
+    elif "fall" in held["permit"]:
+        del held["permit"]["fall"]
+        held["version"], words = 2, {whole_line(text, places["permit.fall"]): ""}
+    new = replaced(text, {**words, places["version"]: held["version"]})
+    return new if parsed(name, new) == held else fail(f"{name}: a key isn't written as expected; put permit.fall in by hand")
+
+
+def whole_line(text, span):
+    """Where the line of a value begins, and where the next one does."""
+    return text.rfind("\n", 0, span[0]) + 1, text.find("\n", span[1]) + 1 or len(text)
+
+
+def line_behind(text, span):
+    """The place behind the line of a value."""
+    return (whole_line(text, span)[1],) * 2
+
+
+def new_lines(text, span, values, keys):
+    """Lines for more keys of the table in which the line of the threshold stands, written as that line is."""
+    first, last = whole_line(text, span)
+    head, end = text[first:span[0]], "\r\n" if text[first:last].endswith("\r\n") else "\n"
+    lines = "".join(f"{head.replace('threshold', key)}{toml_text(values[key])}{end}" for key in keys)
+    return lines if text[first:last].endswith("\n") else end + lines
 
 
 def spans(text):

@@ -86,17 +86,23 @@ def choices(kind, key, value, last):
     return value if is_list else [value]
 
 
-def drawn(draws, kind, key, value, last):
+def drawn_from(kind, key, value, last):
+    """What a key is drawn from, and how many of these make a list; None is a single one."""
+    if not isinstance(value, dict) or "length" not in value:
+        return choices(kind, key, value, last), None
+    rest = {name: number for name, number in value.items() if name != "length"}
+    numbers = [False, True] if key == "opens" else numbers_of(rest, None)
+    if type(value["length"]) is not int or not 1 <= value["length"] <= MOST_LENGTH:
+        fail(f"{kind}: the length of {key} isn't a whole number from 1 to {MOST_LENGTH}")
+    return numbers, value["length"]
+
+
+def drawn(draws, key, allowed, length):
     """One value of a key, by the generator `draws`."""
-    if isinstance(value, dict) and "length" in value:
-        rest = {name: number for name, number in value.items() if name != "length"}
-        numbers = [False, True] if key == "opens" else numbers_of(rest, None)
-        if type(value["length"]) is not int or not 1 <= value["length"] <= MOST_LENGTH:
-            fail(f"{kind}: the length of {key} isn't a whole number from 1 to {MOST_LENGTH}")
-        values = [numbers[int(draws.random() * len(numbers))] for _ in range(value["length"])]
-        return sorted(set(values)) if key == "after" else values
-    allowed = choices(kind, key, value, last)
-    return allowed[int(draws.random() * len(allowed))]
+    if length is None:
+        return allowed[int(draws.random() * len(allowed))]
+    values = [allowed[int(draws.random() * len(allowed))] for _ in range(length)]
+    return sorted(set(values)) if key == "after" else values
 
 
 def faults_on(plan, draws, ticks):
@@ -111,8 +117,9 @@ def faults_on(plan, draws, ticks):
             for values in itertools.product(*lists):
                 yield {"class": kind, **dict(zip(spec, values))}
         else:
+            allowed = [(key, *drawn_from(kind, key, value, ticks - 1)) for key, value in spec.items()]
             for _ in range(count):
-                yield {"class": kind, **{key: drawn(draws, kind, key, value, ticks - 1) for key, value in spec.items()}}
+                yield {"class": kind, **{one[0]: drawn(draws, *one) for one in allowed}}
 
 
 def runs_of(plan, ticks):

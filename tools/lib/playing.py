@@ -8,10 +8,10 @@ import re
 import shlex
 import sys
 
-from lib.calibration import calibration_of, period_of, threshold_of, weight_limits_of
+from lib.calibration import calibration_of, has_ramp, period_of, threshold_of, weight_limits_of
 from lib.covering import cover_of, missing
 from lib.files import TOOLS, TOP, read, sum_of, text_in
-from lib.program import printed_by, program, version_lines
+from lib.program import asked_version, printed_by, program, version_lines
 from lib.questions import answer_of
 from lib.records import drive_of, record_of
 from lib.toml import toml_in
@@ -43,10 +43,11 @@ class Played:
 
     def __init__(self, campaign, calibration, sound, sweeps_sound, tick=None):
         self.campaign, self.calibration, self.units = campaign, calibration, units_of(tick, [calibration])
-        self.version, self.commands, self.sums = version_lines(), [], {}
+        called = program()  # which builds it, if need be, before --version looks for it
+        asked, self.commands, self.sums = asked_version(), [], {}
         self.date = datetime.datetime.now(datetime.timezone.utc).strftime("%Y-%m-%d %H:%M UTC")
         units = beside(calibration) if calibration else None
-        for name in [program(), *(name for name in (calibration, units, campaign) if name)]:
+        for name in [called, *(name for name in (calibration, units, campaign) if name)]:
             self.add_sum(name)
         for name in own_files(calibration):
             self.add_sum(name, os.path.join(TOP, name))
@@ -61,6 +62,7 @@ class Played:
             self.add_sum(name)
         self.threshold = threshold_of(calibration)
         self.period = period_of(calibration)
+        self.has_ramp = has_ramp(calibration)
         self.weights = weight_limits_of(calibration)
         self.records = {row["run"]: self.record(row["run"]) for row in self.rows}
         self.blind = self.blind_for()
@@ -68,7 +70,7 @@ class Played:
         self.not_asked = [runs[0] for runs, is_left_out in groups if is_left_out]
         swept = [runs for runs, is_left_out in groups if not is_left_out]
         self.sweeps, self.left = [self.sweep(runs) for runs in swept[:MOST_SWEEPS]], max(0, len(swept) - MOST_SWEEPS)
-        self.coupled, self.replayed = {}, {}
+        self.coupled, self.replayed, self.kept, self.version = {}, {}, None, version_lines(asked=asked)
 
     def add_others(self, coupled, recordings):
         """Takes records of coupled runs, and what level 2 finds in recorded readings."""
@@ -83,6 +85,10 @@ class Played:
     def add_sum(self, name, path=None):
         content = read(path or name)
         self.sums[name] = len(content), sum_of(content), path or name
+
+    def files(self):
+        """The files of the call: not the program, nor the tool's own files."""
+        return [name for name, (_, _, path) in self.sums.items() if name == path != program()]
 
     def refuse_changes(self):
         """Ends if a file isn't any more what it was when the first command read it."""

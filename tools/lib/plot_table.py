@@ -14,17 +14,18 @@ HEAD, PANEL = 40, 200  # how high the title is, and a panel
 def points_of(name, lines):
     """For each class of the table with a reaction under a fault the greatest reaction of each onset; and R of its rows."""
     points, bounds = {}, set()
-    rows = csv.DictReader(lines)
+    rows = csv.reader(lines)
     try:
-        for row in rows:
-            bounds.add(int(row["bound"]))
-            if row["onset"] and row["reaction"]:
-                onset, places = int(row["onset"]), points.setdefault(row["class"], {})
-                places[onset] = max(places.get(onset, 0), int(row["reaction"]))
-    except (KeyError, TypeError, ValueError):
+        at = {name: place for place, name in enumerate(next(rows))}
+        for row in filter(None, rows):
+            bounds.add(int(row[at["bound"]]))
+            if row[at["onset"]] and row[at["reaction"]]:
+                onset, places = int(row[at["onset"]]), points.setdefault(row[at["class"]], {})
+                places[onset] = max(places.get(onset, 0), int(row[at["reaction"]]))
+    except (IndexError, KeyError, ValueError):
         fail(f"{name} is no table: line {rows.line_num} has no such row")
     except csv.Error:
-        fail(f"{name} is no table: line {rows.line_num + 1} isn't one of CSV")
+        fail(f"{name} is no table: line {rows.line_num} isn't one of CSV")
     if not points:
         fail(f"{name} has no run with a reaction under a fault")
     return points, single_bound(name, bounds)

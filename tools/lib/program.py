@@ -1,5 +1,6 @@
 """The program: which one it is, what is told of it, and what its commands print."""
 
+import functools
 import os
 import shlex
 import subprocess
@@ -9,7 +10,7 @@ import tempfile
 from lib.files import TOOLS, TOP, read, room_in, sum_of
 from lib.tool import TOOL, as_noted, fail
 
-SHOWN = {"calls": False}  # whether each call of the program is shown
+CALLS = {"shown": False, "kept": None}  # whether each call is shown; the folder in which each is kept (lib/keeping.py), if any
 OWN = ", by a program of your own"  # what a version has behind it if the program is another one
 
 
@@ -42,23 +43,37 @@ def is_program(path):
 
 def built_by(launcher):
     """The program that the launcher keeps. It is called first, so that it builds the program if need be."""
+    return kept_by(launcher, os.environ.get("EGASIM_OUT"))
+
+
+@functools.cache
+def kept_by(launcher, folder):
+    """The program that the launcher keeps there: asked once, so that a tool has one program in a call."""
     if subprocess.call([launcher, "bound"], stdout=subprocess.DEVNULL):
         fail(f"{launcher} has built no program")
     top = os.path.dirname(os.path.realpath(launcher))
-    built = os.path.join(os.environ.get("EGASIM_OUT") or os.path.join(top, "out"), "egasim")
+    built = os.path.join(folder or os.path.join(top, "out"), "egasim")
     return os.path.realpath(built) if is_program(built) else fail(f"{launcher} keeps no program")
 
 
-def version_lines():
-    """What --version tells of the program that is called; of one that the caller brings that alone, and its checksum."""
-    total = f"program {sum_of(read(program()))}"
-    launcher, version = os.path.join(TOP, "egasim"), os.path.join(TOP, "VERSION")
-    if os.path.isfile(launcher):
-        # The commit is that of the checkout, whatever Git's variables of the caller name.
-        clean = {name: value for name, value in os.environ.items() if not name.startswith("GIT_")}
-        told = subprocess.run([launcher, "--version"], stdin=subprocess.DEVNULL, capture_output=True, env=clean,
-                              check=False)
-        lines = told.stdout.decode().splitlines()
+def asked_version():
+    """A call of the launcher's --version, which reads all sources, while the tool goes on; None where there is none."""
+    launcher = os.path.join(TOP, "egasim")
+    if not os.path.isfile(launcher):
+        return None
+    # The commit is that of the checkout, whatever Git's variables of the caller name.
+    clean = {name: value for name, value in os.environ.items() if not name.startswith("GIT_")}
+    return subprocess.Popen([launcher, "--version"], stdin=subprocess.DEVNULL, stdout=subprocess.PIPE,
+                            stderr=subprocess.DEVNULL, env=clean)
+
+
+def version_lines(way=None, asked=None):
+    """What --version tells of the program that is called, or of the one at `way`; of one that the caller brings that alone,
+    and its checksum. `asked` is the call that asked_version began."""
+    total, version = f"program {sum_of(read(way or program()))}", os.path.join(TOP, "VERSION")
+    asked = asked or asked_version()
+    if asked:
+        lines = asked.communicate()[0].decode().splitlines()
     else:
         lines = read(version).decode().splitlines() if os.path.isfile(version) else []
     if tells_of(lines, total):
@@ -82,12 +97,22 @@ def own_warning(place):
             "is built with the sources, and not of this one.")
 
 
+def run(words, given=b"", way=None, place=None):
+    """Runs a command of the program, or of the one at `way`, in the folder of the call or in another one."""
+    return subprocess.run([way or program(), *words], input=given, cwd=place or None, capture_output=True, check=False)
+
+
+def call(words, given=b"", way=None, place=None):
+    """Runs a command as `run` does. Where calls are kept it is kept too, by the folder's program and in its place."""
+    return CALLS["kept"].call(words, given) if CALLS["kept"] else run(words, given, way, place)
+
+
 def printed_by(*words, readings=None, shown=None):
     """What a command of the program prints, with this file on standard input. If it is refused, its note is told, where
     `shown` may have other names for those that the program was given."""
     show_call(words, readings)
     given, shown = read(readings) if readings else b"", shown or {}
-    done = subprocess.run([program(), *words], input=given, capture_output=True, check=False)
+    done = call(words, given)
     if done.returncode:
         note = done.stderr.decode(errors="replace").strip()
         for name, other in {**shown, **({"standard input": readings} if readings else {})}.items():
@@ -107,7 +132,7 @@ def printed_of(command, *words, text, name="calibration.toml"):
 
 def show_call(words, readings=None):
     """Shows a call on standard error, if that is asked for by --verbose."""
-    if SHOWN["calls"]:
+    if CALLS["shown"]:
         print(as_noted(f"{TOOL}: egasim {shlex.join(words)}{f' <{shlex.quote(readings)}' if readings else ''}"), file=sys.stderr)
 
 

@@ -3,18 +3,20 @@
 import csv
 import errno
 import io
+import itertools
 import os
 import re
-import subprocess
+from concurrent.futures import ThreadPoolExecutor
 
-from lib.campaigns import Campaign, run_text
+from lib.campaigns import Campaign, keys_text, run_text
 from lib.files import TOOLS, read, room_in, sum_of
 from lib.plans import PARAMETERS, checked_plan, runs_of
-from lib.program import program
+from lib.program import call, program
 from lib.tool import fail
 from lib.units import beside
 
 COLUMNS = ["drive", "image", "slices", "engine", *PARAMETERS]  # of study.csv, beside those of `table`
+CALIBRATION = "inputs/calibration.toml"  # of a study that has one
 FORMULA = tuple("=+-@\t\r＝＋－＠")  # with one of these a cell begins that a spreadsheet runs
 
 
@@ -38,18 +40,24 @@ class Folder:
         self.sums[name] = sum_of(content)
 
     def put_campaign(self, campaign):
+        """Writes a campaign: what the program is to try then."""
         self.count += 1
         name = f"campaigns/{self.count:05}"
         rows = io.StringIO(newline="")
         csv.writer(rows, lineterminator="\n").writerows([["run", *COLUMNS], *campaign.rows])
         self.put(f"{name}.toml", "".join(campaign.texts).encode())
         self.put(f"{name}.csv", rows.getvalue().encode())
-        used = ["egasim", *sorted(campaign.inputs), f"{name}.toml"]
+        # Behind the program, in the order in which lib/keeping.py names what a command reads.
+        used = ["egasim", *(one for one in [CALIBRATION] if one in self.sums), f"{name}.toml", *campaign.inputs]
         self.put(f"{name}.sum", "".join(f"{self.sums[one]}  {one}\n" for one in used).encode())
-        note = self.call("record", f"{name}.toml", "no-such-run").stderr.decode(errors="replace").strip()
+        return f"{name}.toml", campaign.texts
+
+    def try_campaign(self, name, texts):
+        """Ends if the program refuses a campaign."""
+        note = self.call("record", name, "no-such-run").stderr.decode(errors="replace").strip()
         if note != "no such run":
             place = re.search(r"run (\d+)", note)
-            run = " ".join(campaign.texts[int(place[1]) - 1].split()) if place else ""
+            run = " ".join(texts[int(place[1]) - 1].split()) if place else ""
             fail(f"the plan makes a campaign that is refused: {note}: {run}")
 
     def call(self, command, *words):
@@ -70,10 +78,16 @@ class Folder:
 
 def called(path, command, *words):
     """A command of the program in the folder of a study, by the study's calibration."""
-    name = "inputs/calibration.toml"
-    calibration = ["--cal", name] if os.path.exists(os.path.join(path, name)) else []
-    return subprocess.run([os.path.abspath(os.path.join(path, "egasim")), command, *calibration, *words], cwd=path,
-                          stdin=subprocess.DEVNULL, capture_output=True, check=False)
+    return call(words_of(path, command, *words), way=program_of(path), place=path)
+
+
+def program_of(path):
+    return os.path.abspath(os.path.join(path, "egasim"))
+
+
+def words_of(path, command, *words):
+    """The words of a command in the folder of a study, by the study's calibration."""
+    return [command, *(["--cal", CALIBRATION] if os.path.exists(os.path.join(path, CALIBRATION)) else []), *words]
 
 
 def write_study(name, target):
@@ -118,7 +132,7 @@ def put_inputs(folder, plan, name):
         folder.put(script, read(os.path.join(TOOLS, "study_files", script)))
         os.chmod(folder.place(script), 0o644 if script == "Makefile" else 0o755)
     if plan["calibration"]:
-        folder.put("inputs/calibration.toml", read(plan["calibration"]))
+        folder.put(CALIBRATION, read(plan["calibration"]))
         if units := beside(plan["calibration"]):
             folder.put("inputs/units.toml", read(units))
     return copied(folder, "drive", plan["drives"], "csv"), copied(folder, "image", plan["images"], "hex")
@@ -136,22 +150,36 @@ def copied(folder, kind, names, ending):
 
 
 def put_campaigns(folder, plan, drives, images):
+    """Writes all campaigns. The program tries one while the next is made; the first one that it refuses is told."""
+    tried = None
+    with ThreadPoolExecutor(1) as pool:
+        try:
+            for campaign in campaigns_of(folder, plan, drives, images):
+                put = folder.put_campaign(campaign)
+                if tried:
+                    tried.result()
+                tried = pool.submit(folder.try_campaign, *put)
+        finally:
+            if tried:
+                tried.result()
+
+
+def campaigns_of(folder, plan, drives, images):
     ticks = ticks_of_drives(folder, drives, images, plan["calibration"])
-    shared = ["inputs/calibration.toml"] if plan["calibration"] else []
     campaign = Campaign()
-    for drive, image, number, engine, fault in runs_of(plan, ticks):
-        folder.runs += 1
-        name = f"r{folder.runs:07}"
-        run = {"name": name, "trace": drives[drive], "image": images[image], "slices": plan["slices"][number],
-               "engine": engine, "faults": [fault] if fault else None}
-        text = run_text(run)
-        if not campaign.has_room(text, ticks[drive]):
-            folder.put_campaign(campaign)
-            campaign = Campaign()
-        row = [name, name_cell(drive), name_cell(image), number, engine]
-        values = [cell((fault or {}).get(key, "")) for key in PARAMETERS]
-        campaign.add(text, [*row, *values], [*shared, drives[drive], images[image]], ticks[drive])
-    folder.put_campaign(campaign)
+    for (drive, image, number, engine), runs in itertools.groupby(runs_of(plan, ticks), lambda run: run[:4]):
+        alike = keys_text({"trace": drives[drive], "image": images[image], "slices": plan["slices"][number], "engine": engine})
+        cells, inputs = [name_cell(drive), name_cell(image), number, engine], [drives[drive], images[image]]
+        for fault in (run[4] or {} for run in runs):
+            folder.runs += 1
+            name = f"r{folder.runs:07}"
+            text = run_text({"name": name}) + alike + (keys_text({"faults": [fault]}) if fault else "")
+            if not campaign.has_room(text, ticks[drive]):
+                yield campaign
+                campaign = Campaign()
+            values = [cell(fault[key]) if key in fault else "" for key in PARAMETERS]
+            campaign.add(text, [name, *cells, *values], inputs, ticks[drive])
+    yield campaign
 
 
 def ticks_of_drives(folder, drives, images, calibration):
@@ -161,7 +189,7 @@ def ticks_of_drives(folder, drives, images, calibration):
     for drive, image in tries:
         count, note = folder.ticks_of(drives[drive], images[image])
         if count is None:
-            for name, place in [*drives.items(), *images.items(), (calibration, "inputs/calibration.toml")]:
+            for name, place in [*drives.items(), *images.items(), (calibration, CALIBRATION)]:
                 note = note.replace(place, name or place)
             fail(f"an input is refused: {note}")
         ticks[drive] = count

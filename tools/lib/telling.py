@@ -14,7 +14,7 @@ from lib.records import part_of
 from lib.runs import (CONFIRMED, EXCESS, NO_EXCESS, ONSET, R_PASSED, RESET, about_run, confirmed_of, cuts_of, events,
                       excess_of, finds, given_ticks, lacking, windows)
 from lib.units import Units
-from lib.verdicts import named, verdict
+from lib.verdicts import first_ramp_said, is_on_first_ramp, named, verdict
 
 MOST_EVENTS, MOST_MARKS, MOST_CUTS = 30, 12, 12
 FOLDED = ("Files and texts", "Recorded readings", "Coupled runs")  # claims that a page tells in one line
@@ -234,6 +234,9 @@ def others(played):
     for name, lines in played.replayed.items():
         yield f"<h3>{shown(name)}</h3>"
         yield from table("replay: what level 2 finds", ("of", "what"), [line.split(" ", 1) for line in lines], "data")
+        found = re.match(r"torque at (\d+);", next((line for line in lines if line.startswith("torque ")), ""))
+        if found and is_on_first_ramp(int(found[1]), played.limits):
+            yield paragraph(first_ramp_said(name, found[1]))
 
 
 def run_figure(place, title, record, threshold, marks, units=Units()):
@@ -334,3 +337,5 @@ def provenance(played):
                      [(code(name), size, code(total)) for name, (size, total, _) in played.sums.items()], "sums")
     yield from table("Commands, each of which ended with 0", ("command", "SHA-256 of what it printed"),
                      [(code(command), code(total)) for command, total in played.commands], "sums")
+    if played.kept:
+        yield paragraph(f"These calls are kept in {played.kept}. tools/keep --again makes them again, and compares.")

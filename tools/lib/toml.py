@@ -1,5 +1,6 @@
 """TOML: what a file holds, and how values are written."""
 
+import functools
 import re
 import tomllib
 
@@ -11,6 +12,7 @@ MOST_DEPTH, MOST_DOTS = 32, 2000  # of a file: tables and lists within each othe
 LONG_TEXTS = r'''"""(?:\\.|[^\\])*?(?:"{3,5}|\\?\Z)|\'\'\'.*?(?:'{3,5}|\Z)'''
 TEXT = re.compile(LONG_TEXTS + r'''|"(?:\\.|[^"\\\n])*"?|'[^'\n]*'?|#[^\n]*''', re.S)
 BARE = re.compile(r"[A-Za-z0-9_-]+")
+NOT_PLAIN = re.compile(r'["\\\x00-\x1f\x7f]')  # what stands in a text by its number
 
 
 def toml_of(name):
@@ -46,19 +48,21 @@ def toml_text(value):
     """A text, number, truth value or list as TOML writes it. A table is written inline."""
     if isinstance(value, bool):
         return "true" if value else "false"
+    if isinstance(value, int):
+        return str(value)
     if isinstance(value, str):
-        return '"' + "".join(toml_character(character) for character in value) + '"'
+        return f'"{NOT_PLAIN.sub(number_of_character, value)}"'
     if isinstance(value, list):
-        return "[" + ", ".join(map(toml_text, value)) + "]"
+        return f"[{', '.join(map(toml_text, value))}]"
     if isinstance(value, dict):
-        return "{ " + ", ".join(f"{key_text(key)} = {toml_text(item)}" for key, item in value.items()) + " }"
+        return f"{{ {', '.join([f'{key_text(key)} = {toml_text(item)}' for key, item in value.items()])} }}"
     return str(value)
 
 
+@functools.cache
 def key_text(key):
     return key if BARE.fullmatch(key) else toml_text(key)
 
 
-def toml_character(character):
-    is_plain = character not in '"\\' and (character >= " " and character != "\x7f")
-    return character if is_plain else f"\\u{ord(character):04x}"
+def number_of_character(match):
+    return f"\\u{ord(match[0]):04x}"

@@ -63,7 +63,7 @@ class Plays:
 
     def __init__(self, folder, called, top=TOP):
         self.folder, self.top, self.children, self.lock, self.is_over = folder, top, [], threading.Lock(), False
-        self.environment = os.environ | {"EGASIM_PROGRAM": called, "EGASIM": called}
+        self.environment = os.environ | {"EGASIM_PROGRAM": called}
 
     def outcomes(self, steps, jobs):
         with ThreadPoolExecutor(jobs) as pool:

@@ -8,12 +8,15 @@ from lib.tool import as_noted
 NOT_OF_XML = re.compile("[\ufffe\uffff]")
 
 
-def tap(verdicts):
-    """The lines of TAP, version 13: one for each verdict. What wasn't asked for is skipped."""
+def tap(verdicts, kept=None):
+    """The lines of TAP, version 13: one for each verdict. What wasn't asked for is skipped. A comment says where the calls of
+    the program are kept, if they are."""
     yield from ("TAP version 13", f"1..{len(verdicts)}")
     for number, verdict in enumerate(verdicts, 1):
         skipped = " # SKIP" if verdict.is_so is None else ""
         yield f"{'not ok' if verdict.is_so is False else 'ok'} {number} - {tap_text(said(verdict))}{skipped}"
+    if kept:
+        yield f"# kept in {as_noted(kept)}"
 
 
 def said(verdict):
@@ -25,12 +28,15 @@ def tap_text(text):
     return as_noted(text).replace("\\", "\\\\").replace("#", "\\#")
 
 
-def junit(suite, verdicts):
-    """The lines of JUnit's XML: a case for each verdict, whose class is the run or the recording."""
+def junit(suite, verdicts, kept=None):
+    """The lines of JUnit's XML: a case for each verdict, whose class is the run or the recording. A property says where the
+    calls of the program are kept, if they are."""
     count = f'tests="{len(verdicts)}" failures="{sum(verdict.is_so is False for verdict in verdicts)}" errors="0"'
     skipped = sum(verdict.is_so is None for verdict in verdicts)
     yield from ('<?xml version="1.0" encoding="UTF-8"?>', "<testsuites>",
                 f'<testsuite name={attribute(suite)} {count} skipped="{skipped}">')
+    if kept:
+        yield f'<properties><property name="kept" value={attribute(kept)}/></properties>'
     for verdict in verdicts:
         case = f"<testcase classname={attribute(verdict.subject)} name={attribute(verdict.name)}"
         words, kind = attribute(verdict.words), "failure" if verdict.is_so is False else "skipped"

@@ -8,6 +8,8 @@ from lib.units import Units
 FAILS, OPEN, FITS = "Doesn't fit", "Not judged", "Fits"  # the worst first
 MOST_NAMES = 10  # that a line names
 LISTED_CLASSES = 13
+WITHOUT_LAPSES, WITHOUT_HELD = "--without-lapses", "--without-held-torque"  # words of find and report
+SAID = {WITHOUT_LAPSES: "level 2 never misses a tick", WITHOUT_HELD: "no torque is held when the demand falls"}
 
 
 def verdict(played, asked):
@@ -34,10 +36,8 @@ def sentence(states):
 def points(played, asked):
     """(state, words) of each point, the worst first."""
     judged = [*beyond_point(played),
-              time_point("Under at most one listed fault", int(played.limits["stretch"]), asked, played.units),
-              time_point("Under lapses, which aren't listed,", lapse_stretch(played), asked, played.units),
-              cut_point(played), room_point(played, asked), misses_point(played), peak_point(played),
-              questions_point(played), evidence_point(played)]
+              listed_point(played, asked), lapse_point(played, asked), cut_point(played), room_point(played, asked),
+              misses_point(played), peak_point(played), questions_point(played), evidence_point(played)]
     return sorted(judged, key=lambda point: [FAILS, OPEN, FITS].index(point[0]))
 
 
@@ -57,20 +57,73 @@ def beyond_point(played):
     return [(FAILS, f"Against what is proved, more than limits allow: {named(beyond)}.")] if beyond else []
 
 
+def held_of(limits, said=()):
+    """How many ticks after the fall of the demand a held torque may be permitted, since the permitted torque comes down the
+    ramp: none if a word of the call says that none is held. None if the permitted torque never falls."""
+    if limits["ramp"] == "none":
+        return None
+    return 0 if WITHOUT_HELD in said else max(0, int(limits["ramp"]) - 1)
+
+
+def is_on_first_ramp(tick, limits):
+    """Whether a ramp that began before a recording may go on at one of its ticks."""
+    return limits["ramp"] == "none" or tick < int(limits["ramp"])
+
+
+def first_ramp_said(name, tick):
+    return (f"{name} at {tick}: fewer than `ramp` ticks lie before it, and before the first nothing was permitted. If the recording "
+            "begins while the permitted torque comes down, this may be no excess; let it begin earlier.")
+
+
+def listed_point(played, asked):
+    """Whether an excess ends in time under the listed faults, with a ramp from the fall of the demand on."""
+    held, under = held_of(played.limits, asked.said), "Under at most one listed fault"
+    if held is None:
+        return FAILS, (f"{under} a torque may be held for ever: by permit.fall = 0 the permitted torque never falls (ramp none). "
+                       "A calibration without a ramp is of version 1 or 2.")
+    if played.has_ramp and WITHOUT_HELD in asked.said:
+        under += f", and where {SAID[WITHOUT_HELD]}, as was said ({WITHOUT_HELD}),"
+    return time_point(under, int(played.limits["stretch"]), asked, played.units, held=held)
+
+
+def lapse_point(played, asked):
+    """Whether an excess ends in time under lapses, unless the words of the call say that there are none."""
+    if WITHOUT_LAPSES in asked.said:
+        return FITS, f"No lapse, a class which isn't listed, is judged: {SAID[WITHOUT_LAPSES]}, as was said ({WITHOUT_LAPSES})."
+    return time_point("Under lapses, which aren't listed,", lapse_stretch(played), asked, played.units, no_bound(played))
+
+
 def lapse_stretch(played):
-    """How many ticks in a row an excess may last under lapses; None if no number is known (docs/CALIBRATING.md, "What is
-    proved")."""
+    """How many ticks in a row an excess may last under lapses; None if no bound holds, or none is known
+    (docs/CALIBRATING.md, "What is proved")."""
     limits = played.limits
+    if played.has_ramp:
+        return None
     if int(limits["excess"]) <= played.period:
         return int(limits["stretch"])
     return None if limits["lapse"] == "none" else int(limits["lapse"]) - 1
 
 
-def time_point(under, ticks, asked, units=Units()):
-    """Whether an excess ends in time (docs/CALIBRATING.md, "Step by step")."""
+def no_bound(played):
+    """Why `limits` may print no bound for lapses. With a ramp none holds; else the weights leave it open."""
+    if played.has_ramp:
+        return ("no bound holds for how long an excess lasts: with a ramp (permit.fall) what level 2 permits doesn't fall at the "
+                "ticks that it misses, and so may stand above what is permitted. With fall 5 and one tick in 100 missed an "
+                "excess can last for ever. Where level 2 never misses a tick, --without-lapses says so")
+    return ("no bound is known for how long an excess lasts: right verdicts may take back what the wrong ones add (up, down and "
+            "limit of the answers)")
+
+
+def time_point(under, ticks, asked, units=Units(), unbounded="", held=0):
+    """Whether an excess ends in time (docs/CALIBRATING.md, "Step by step"), counted with the ticks before it for which the
+    torque is held on the ramp."""
     if ticks is None:
-        return FAILS, f"{under} no bound is known for how long an excess lasts."
+        return FAILS, f"{under} {unbounded}."
     lasts = f"{under} an excess lasts {units.ticks(ticks, 'ticks')} in a row at the most"
+    if held:
+        ticks += held
+        lasts += (f", and from the fall of the demand {units.ticks(ticks, 'ticks')}, of which {units.ticks(held)} on the ramp (if no "
+                  "raise is above the permit table)")
     if asked.tolerant is None:
         return OPEN, f"{lasts}; how many are tolerated wasn't said (--tolerant TIME)."
     left = max(0, asked.tolerant - 1 - (asked.falls or 0))
@@ -139,9 +192,10 @@ def room_point(played, asked):
 def misses_point(played):
     """Whether a wrong answer, or a missed tick, is tolerated (docs/CALIBRATING.md, "Missed ticks")."""
     wrong, spacing = int(played.limits["verdicts"]), played.limits["spacing"]
+    ramp = " With a ramp the torque may cut all the same, if more is demanded at a missed tick." if played.has_ramp else ""
     if spacing != "none":
         return FITS, (f"A wrong answer is tolerated, {wrong} in a row cut (N); missed ticks that lie {played.units.ticks(spacing)} or more apart cause "
-                      "no such cut (spacing).")
+                      f"no such cut (spacing).{ramp}")
     if wrong > 2:
         return FAILS, "Missed ticks add up to a cut, however far apart they lie (spacing none): no right answer takes one back."
     return FAILS, (f"{'One wrong answer cuts' if wrong == 1 else 'Two wrong answers in a row cut'}, and so one missed tick may (N = {wrong}, "

@@ -26,7 +26,7 @@ class Campaigns(InFolder):
             self.assertTrue(campaign.has_room("x", 1))
             campaign.add("x", ["r"], ["d", "i"], 1)
         self.assertFalse(campaign.has_room("x", 1))
-        self.assertEqual((campaign.inputs, campaign.ticks, campaign.bytes), ({"d", "i"}, MOST_RUNS, MOST_RUNS))
+        self.assertEqual((campaign.inputs, campaign.ticks, campaign.bytes), ({"d": None, "i": None}, MOST_RUNS, MOST_RUNS))
         campaign = Campaign()
         campaign.add("xy", [], [], MOST_TICKS - 5)
         self.assertEqual((campaign.has_room("x", 5), campaign.has_room("x", 6)), (True, False))

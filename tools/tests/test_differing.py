@@ -36,6 +36,12 @@ class Differing(unittest.TestCase):
             "plant.angle, point 1: 200 is now 201 (20 % is now 20.1 %)",
             "question 0, answer: 8842 is now 1", "question 2, pedal, track 2: 700 is now 3 (70 % is now 0.3 %)"])
 
+    def test_a_ramp_comes_and_goes(self):
+        ramped = copy.deepcopy(REFERENCE)
+        ramped["permit"]["fall"] = 50
+        for old, new, told in ((REFERENCE, ramped, "absent is now 50"), (ramped, REFERENCE, "50 is now absent")):
+            self.assertEqual(list(differences(old, new, scales_of([]))), [f"permit.fall: {told} (5 Nm)"])
+
     def test_other_axes_make_places_numbers(self):
         def change(new):
             new["permit"]["speed"][0] = 700

@@ -10,18 +10,18 @@ from lib.found import HEIGHT, TOP, picture_of, table_of
 from lib.units import Units
 
 
-def search_with(room=0, left=27, misses=1, spacing=None):
+def search_with(room=0, left=27, misses=1, spacing=None, said=()):
     """A search without files, of the numbers of the reference calibration."""
     search = object.__new__(Search)
-    search.asked = SimpleNamespace(room=room, left=left, misses=misses, spacing=spacing)
+    search.asked = SimpleNamespace(room=room, left=left, misses=misses, spacing=spacing, said=said, recordings=["cut.csv"])
     search.start = {"answers": {"up": 3, "first": 4, "send": 5}, "torque": {"up": 1}}
     return search
 
 
-def row_of(threshold, excess, reaction, hindrance=""):
+def row_of(threshold, excess, reaction, hindrance="", fall=None, ramp="0"):
     limits = {"excess": str(excess), "reaction": str(reaction), "stretch": str(excess - 1 + reaction), "verdicts": "3",
-              "lapse": "none", "spacing": "80"}
-    return Row(threshold, 4, 0, "town", 5, 10, 34, {}, {"period": 7}, limits, hindrance)
+              "lapse": "none", "spacing": "80", "ramp": ramp}
+    return Row(threshold, fall, max(0, int(ramp) - 1), 4, 0, "town", 5, 10, 34, {}, {"period": 7}, limits, hindrance)
 
 
 class Finding(unittest.TestCase):
@@ -36,11 +36,11 @@ class Finding(unittest.TestCase):
     def test_times(self):
         """The periods fall to the least; each is sent and heard at its last tick; N*period fits as long as any does."""
         for left in range(0, 400, 7):
-            for limit in (1, 5, 30):
-                times = list(search_with(left=left).times_for(Row(0, limit=limit)))
+            for limit, held in ((1, 0), (5, 0), (30, 0), (5, 47)):
+                times = list(search_with(left=left).times_for(Row(0, held=held, limit=limit)))
                 periods = [one["period"] for one in times]
                 self.assertEqual(list(range(periods[0], 1, -1)), periods)
-                fitting = [period for period in range(2, 101) if limit - 1 + 3 * period <= left]
+                fitting = [period for period in range(2, 101) if limit - 1 + 3 * period + held <= left]
                 self.assertEqual(max(fitting, default=2), periods[0])
                 for one in times:
                     self.assertTrue(0 <= one["first"] <= one["send"] == one["last"] == one["period"] - 1)
@@ -54,16 +54,33 @@ class Finding(unittest.TestCase):
                 (("30", "8", "32", "50"), "under lapses 31 is above 30"), (("30", "7", "9", "51"), "spacing 51 is above 50"),
                 (("30", "7", "9", "none"), "spacing none is above 50")):
             told = dict(zip(("stretch", "excess", "lapse", "spacing"), limits))
-            self.assertEqual(words, search.hindrance_of(told, times)[0])
+            self.assertEqual(words, search.hindrance_of(Row(0), told, times)[0])
+            without = search_with(left=30, spacing=50, said=["--without-lapses"])
+            self.assertEqual("" if "lapses" in words else words, without.hindrance_of(Row(0), told, times)[0])
+
+    def test_hindrance_of_a_ramp(self):
+        """With a ramp its ticks count, and a word is needed by which there are no lapses."""
+        told, no_bound = {"stretch": "30", "excess": "5", "lapse": "none", "spacing": "10"}, "under lapses no bound holds with a ramp (--without-lapses)"
+        for said, left, held, words in (((), 37, 8, "with the ramp 38 is above 37"), ((), 38, 8, no_bound), (("--without-lapses",), 38, 8, ""),
+                                        (("--without-lapses",), 37, 8, "with the ramp 38 is above 37"), ((), 30, 0, no_bound),
+                                        (("--without-lapses",), 29, 0, "stretch 30 is above 29")):
+            self.assertEqual(words, search_with(left=left, said=said).hindrance_of(Row(0, 50, held), told, {"period": 7})[0])
+
+    def test_recordings_that_begin_on_a_ramp(self):
+        """A recording may begin on a ramp if it binds at a tick at which that could go on."""
+        rows = [row_of(100, 5, 21, "", fall, ramp) for fall, ramp in ((0, "0"), (90, "34"), (50, "35"), (40, "99"))]
+        self.assertEqual({}, search_with().on_first_ramp(rows))
+        for row in rows:
+            row.binds = "cut.csv"
+        self.assertEqual({"cut.csv": rows[2]}, search_with().on_first_ramp(rows))
 
     def test_front(self):
         """A row is on the front if it is the only one left of those that are at most as high in both."""
         chance = random.Random(7)
         for _ in range(200):
-            rows = [row_of(chance.randrange(6), chance.randrange(1, 5), 3) for _ in range(6)]
+            rows = [row_of(chance.randrange(6), chance.randrange(1, 5), 3, ramp=str(chance.randrange(3))) for _ in range(6)]
             for row in rows:
-                below = {(one.threshold, one.limits["stretch"]) for one in rows
-                         if one.threshold <= row.threshold and int(one.limits["stretch"]) <= int(row.limits["stretch"])}
+                below = {(one.threshold, one.lasts()) for one in rows if one.threshold <= row.threshold and one.lasts() <= row.lasts()}
                 self.assertEqual(len(below) == 1, is_on_front(row, rows))
 
     def test_table(self):
@@ -71,6 +88,22 @@ class Finding(unittest.TestCase):
         lines = list(table_of(rows, Units(10**7)))
         self.assertEqual("  *  ", "".join(line[0] for line in lines) + " ")
         self.assertEqual("270 ms  town at 34  fits", "  ".join(lines[2].split("  ")[-3:]).strip())
+
+    def test_table_of_ramps(self):
+        """With ramps the table has two columns more, and one of what their ticks come to, if they count."""
+        rows = [row_of(100, 8, 21, "stretch 28 is above 27", 0, "0"), row_of(100, 7, 21, "", 150, "16"), row_of(100, 5, 21, "", 50, "48")]
+        lines = [line[2:].split() for line in table_of(rows, Units())]
+        self.assertEqual([["threshold", "fall", "ramp", "weight"], ["100", "-", "0", "4"], ["100", "150", "16", "4"], ["100", "50", "48", "4"]],
+                         [line[:4] for line in lines])
+        self.assertIn("that is  with the ramp  binds", list(table_of(rows, Units(10**7)))[0])
+        self.assertEqual(["42", "town", "at", "34", "fits"], lines[2][-5:])
+        self.assertIn("270 ms    42 (420 ms)  town at 34", list(table_of(rows, Units(10**7)))[2])
+        picture = "".join(picture_of(rows, 27, Units(10**7), ["--without-lapses"]))
+        for words in (">100<", ">100/150<", ">100/50<", "threshold 100, fall 50: D 5, stretch 25, with the ramp 72 (720 ms), fits", "; by --without-lapses"):
+            self.assertIn(words, picture)
+        for row in rows:
+            row.held = 0
+        self.assertNotIn("with the ramp", list(table_of(rows, Units()))[0])
 
     def test_picture(self):
         """The bars of the picture, read back, are D - 1 and the stretch of each row, and the line is T."""

@@ -17,6 +17,7 @@ HEAD = "run,class,onset,acted,confirmed,stretch,reaction,settled,bound"
 PLANNED = {"00001": "run,drive,image\nr1,a.csv,i.hex\nr2,./=1.csv,i.hex\n", "00002": "run,drive,image\nr3,a.csv,i.hex\n"}
 PLAYED = {"00001": f"{HEAD}\nr1,none,,,9,5,1,1,34\nr2,halt,3,1,9,30,20,1,34\n",
           "00002": f"{HEAD}\nr3,halt,90,0,,0,,,34\n"}
+STAMP = "0a  egasim\n0b  campaigns/{0}.toml\n"
 JOINED = """run,drive,image,slices,engine,add,after,at,every,mask,module,offset,opens,path,questions,track,values,word,"""
 
 
@@ -38,14 +39,14 @@ class Joining(InFolder):
         self.put("s/MANIFEST", f"{sum_of(b'plan')}  plan.toml\n")
         for number in PLANNED:
             self.put(f"s/campaigns/{number}.toml")
-            self.put(f"s/campaigns/{number}.sum", f"{number}\n")
+            self.put(f"s/campaigns/{number}.sum", STAMP.format(number))
             self.put(f"s/campaigns/{number}.csv", PLANNED[number])
             self.play(number, PLAYED[number])
         self.enterContext(limits())
 
     def play(self, number, table):
         self.put(f"s/tables/{number}.csv", table)
-        self.put(f"s/tables/{number}.sum", f"{number}\n{sum_of(table.encode())}  -\n")
+        self.put(f"s/tables/{number}.sum", f"{STAMP.format(number)}{sum_of(table.encode())}  -\n")
 
     def test_table_has_what_was_planned_and_what_was_played(self):
         out, err, note = said_by(join, "s")
@@ -57,6 +58,22 @@ class Joining(InFolder):
         self.assertEqual([line.split() for line in out.splitlines()[1:]],
                          [["none", "1", "0", "0", "0", "0", "1", "34", "5", "38"],
                           ["halt", "2", "1", "1", "0", "1", "20", "34", "30", "38"]])
+
+    def test_a_study_that_has_all_tables_is_kept(self):
+        self.put("s/egasim", b"\x7fELF", 0o755)
+        out, _, note = said_by(join, "s", None, "k")
+        self.assertEqual((note, out.splitlines()[-1]), (None, f"kept in k, whose kept.sum has the SHA-256 {sum_of(read('k/kept.sum'))}"))
+        self.assertEqual([read(f"k/00002/{name}").decode() for name in ("command", "output", "notes", "status", "read.sum")],
+                         ["egasim table campaigns/00002.toml\n", PLAYED["00002"], "", "0\n", "0b  campaigns/00002.toml\n"])
+        self.assertEqual((read("k/place"), read("k/tool.sum").decode()), (b"s\n", "".join(
+            f"{sum_of(read(f's/{name}'))}  {name}\n" for name in ("MANIFEST", "study.csv"))))
+        self.assertIn(f"program {sum_of(read('s/egasim'))}", read("k/version").decode().splitlines())
+        self.assertEqual(said_by(join, "s", None, "k")[2], "k is there already")
+        for name in ("s/campaigns/00002.sum", "s/tables/00002.sum"):
+            self.put(name, read(name).replace(b"egasim\n", b"egasim\n0c  inputs/drive-1.csv\n"))
+        self.assertEqual(said_by(join, "s", None, "m")[2], "s is of older tools; to keep it, write the study anew")
+        os.unlink("s/tables/00002.csv")
+        self.assertEqual((said_by(join, "s", None, "m")[2], os.path.exists("m")), ("s/study.csv has 1 of 2 campaigns", False))
 
     def test_two_at_once_write_what_one_writes(self):
         # So many rows that half of them are on the disk when the second call begins, which is through before the first.

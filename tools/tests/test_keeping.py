@@ -5,10 +5,13 @@ import os
 import shutil
 import subprocess
 import sys
+from unittest import mock
 
 from in_folder import InFolder
-from lib.files import TOOLS, TOP
-from lib.keeping import difference, names_of
+from lib.files import TOOLS, TOP, read, sum_of
+from lib.keeping import calls_kept, differences, differing, names_of
+from lib.program import CALLS, printed_by
+from notes import note_of
 
 CAMPAIGN = """[[run]]
 name = "a"
@@ -85,6 +88,55 @@ class Keeping(InFolder):
         self.assertEqual(self.keep("--again", "k"), (1, "", "k/kept.sum lacks command\n"))
         self.assertEqual(self.keep("--again", "gone"), (1, "", "cannot read gone/kept.sum: No such file or directory\n"))
 
+    def test_each_call_of_a_tool_is_kept_and_each_difference_told(self):
+        self.assertEqual(self.kept_by_tool("k", "r.csv"), f"k, whose kept.sum has the SHA-256 {sum_of(read('k/kept.sum'))}")
+        self.assertEqual(sorted(os.listdir("k")), ["00001", "00002", "date", "kept.sum", "tool", "tool.sum", "version"])
+        self.assertEqual((self.content("k/00001/output"), self.content("k/00002/command"), self.content("k/00002/input")),
+                         ("table c.toml\n", "egasim replay\n", "1,2\n"))
+        subprocess.run(["sha256sum", "--quiet", "-c", "kept.sum"], cwd="k", check=True)
+        said = f"k: 2 calls of {self.content('k/tool').strip()}: "
+        self.assertEqual(self.keep("--again", "k"), (0, f"{said}the same\n", ""))
+        self.put("b.csv", "otherwise")
+        self.put("r.csv", "otherwise")
+        status, told, _ = self.keep("--again", "k")
+        self.assertEqual((status, told.splitlines()[0], len(told.splitlines())), (1, f"{said}otherwise", 3))
+        self.assertRegex(told, r"\ntool.sum: line 1 was '[0-9a-f]{64}  r.csv', and is '[0-9a-f]{64}  r.csv'")
+        self.assertRegex(told, r"\n00001: egasim table c.toml: read.sum: line 4 was '[0-9a-f]{64}  b.csv', and is ")
+        _, told, _ = self.keep("--again", "k", program="false")
+        self.assertEqual([line.partition(": line")[0] for line in told.splitlines()[1:]], [
+            "version", "tool.sum", *(f"00001: egasim table c.toml: {name}" for name in ("read.sum", "status", "output")),
+            *(f"00002: egasim replay: {name}" for name in ("status", "output"))])
+        self.put("k/00002/output", "better\n")
+        self.assertEqual(self.keep("--again", "k"), (1, "", "k/00002/output isn't as it was made\n"))
+        for line, note in (("00  ../c.toml", "k/kept.sum isn't as it was made"), (f"{sum_of(b'')}  00001/notes", "k/kept.sum lacks 00001/command")):
+            self.put("k/kept.sum", f"{line}\n")
+            self.assertEqual(self.keep("--again", "k"), (1, "", f"{note}\n"))
+
+    def test_nothing_is_kept_of_a_tool_that_fails(self):
+        self.assertRaises(SystemExit, self.kept_by_tool, "k", "r.csv", "false")
+        self.assertEqual((os.path.exists("k"), CALLS["kept"]), (False, None))
+        self.kept_by_tool(None, "r.csv")
+
+    def test_a_program_that_changes_meanwhile_is_told(self):
+        shutil.copy(shutil.which("echo"), "p")
+        with mock.patch.dict(os.environ, EGASIM_PROGRAM="p"):
+            self.assertEqual(note_of(self.calls_of_changed_program), "the program changed meanwhile")
+        self.assertFalse(os.path.exists("k"))
+
+    def calls_of_changed_program(self):
+        with calls_kept("k"):
+            printed_by("table", "c.toml")
+            with open("p", "ab") as file:
+                file.write(b"otherwise")
+
+    def kept_by_tool(self, name, recording, program="echo"):
+        """Keeps two calls of a tool, this one; what it says of the folder."""
+        self.put(recording, "1,2\n")
+        with mock.patch.dict(os.environ, EGASIM_PROGRAM=shutil.which(program)), calls_kept(name) as kept:
+            printed_by("table", "c.toml")
+            printed_by("replay", readings=recording)
+            return kept and kept.sealed([recording])
+
     def test_words_that_are_none(self):
         note = "FOLDER -- egasim COMMAND .. is wanted, or --again FOLDER; --help tells more\n"
         for words in (["k"], ["k", "egasim", "run"], ["k", "--", "run"], ["k", "--", "egasim"], ["--again"], ["--again", ""], ["", "--", "egasim", "run"]):
@@ -107,7 +159,12 @@ class Keeping(InFolder):
         for way in ("l-egasim", "echo", "", "egasim/", "/"):
             self.assertEqual(self.keep("o", "--", way, "bound")[0], 1)
 
-    def test_the_first_line_that_differs(self):
-        self.assertEqual(difference(b"a\nb\n", b"a\nc\n"), "line 2 was 'b', and is 'c'")
-        self.assertEqual(difference(b"a\n", b"a\nc\n"), "line 2 was '', and is 'c'")
-        self.assertEqual(difference(b"a", b"a\n"), "an end of a line is otherwise")
+    def test_lines_that_differ(self):
+        for old, new, lines in ((b"a\nb\n", b"a\nc\n", ["line 2 was 'b', and is 'c'"]), (b"a\n", b"a\nc\n", ["line 2 was '', and is 'c'"]),
+                                (b"a", b"a\n", ["an end of a line is otherwise"]), (b"a\n", b"a\n", []),
+                                (b"a\nb\nc\n", b"d\nb\n", ["line 1 was 'a', and is 'd'", "line 3 was 'c', and is ''"])):
+            self.assertEqual(list(differing(old, new)), lines)
+        self.put("k/x.sum", "a\nb\nc\n")
+        self.put("k/output", "a\nb\nc\n")
+        told = list(differences("k", {"x.sum": b"d\nb\ne\n", "output": b"d\nb\ne\n"}))
+        self.assertEqual([line.partition(" was")[0] for line in told], ["x.sum: line 1", "x.sum: line 3", "output: line 1"])

@@ -154,6 +154,13 @@ class Labels(InFolder):
         self.assertEqual((list(numbers), told), (["permit.pedal", "permit.speed", "permit.table"],
                                                  ["permit.threshold stays as it is: a.dcm has no Thres"]))
 
+    def test_the_fall_is_a_torque(self):
+        fall = '[[value]]\nkey = "permit.fall"\nname = "F"\nfactor = 0.1\nunit = "Nm"\n'
+        self.assertEqual(self.numbers(fall, f'{HEAD}FESTWERT F\nEINHEIT_W "Nm"\nWERT 5.04\nEND\n'),
+                         ({"permit.fall": 50}, ["permit.fall: 5.04 Nm is 50.4, rounded to 50, 5 Nm"]))
+        self.assertEqual(note_of(lambda: list(lines_of(self.values(fall), {"permit": {"brake": True}}, ""))),
+                         "map.toml: value 1: the calibration has no key permit.fall")
+
     def test_the_brake_is_a_truth_value(self):
         brake = '[[value]]\nkey = "permit.brake"\nname = "B"\n'
         for line, truth in (("WERT 1.0", True), ("WERT 0", False), ('TEXT "true"', True), ('TEXT "FALSE"', False)):

@@ -4,7 +4,7 @@ import random
 import tomllib
 
 from lib.files import TOP, text_of
-from lib.placing import spans, with_values
+from lib.placing import spans, with_ramp, with_values
 from in_folder import InFolder
 from notes import note_of
 
@@ -52,6 +52,23 @@ class Placing(InFolder):
         text = "[permit]\ntable = [  # [900]\n  [1, 2],  # of idle, 17\n  [3, 4],\n]\nbrake = false # = true\n"
         self.assertEqual(self.put_in(text, permit__table=[[1, 2], [17, 4]], permit__brake=True),
                          text.replace("[3,", "[17,").replace("false", "true"))
+
+    def test_a_ramp_comes_and_goes(self):
+        second = "version = 2  # two\n[permit]\nthreshold = 200  # 20 Nm\nbrake = true\n[torque]\nkt = 1\n"
+        third = second.replace("version = 2", "version = 3").replace("20 Nm\n", "20 Nm\nfall = 50\n")
+        for text, fall, new in (
+                (second, 0, second), (second, 50, third), (third, 50, third), (third, 0, second),
+                (third, 7, third.replace("50", "7")),
+                ("version=1\r\npermit.threshold=2\r\n", 9, "version=3\r\npermit.threshold=2\r\npermit.brake=false\r\npermit.fall=9\r\n"),
+                ("version = 1\n[permit]\nthreshold = 2", 9, "version = 3\n[permit]\nthreshold = 2\nbrake = false\nfall = 9\n"),
+                ("version = 3\n[permit]\nthreshold = 2\nbrake = true\nfall = 8  # eight", 0,
+                 "version = 2\n[permit]\nthreshold = 2\nbrake = true\n")):
+            self.assertEqual(with_ramp("c.toml", text, fall), new)
+        for text in ("version = 1\npermit = { threshold = 2 }\n", "version = 1\n[permit]\n'threshold' = 2\n",
+                     "version = 3\n[permit]\nthreshold = 2\n'fall' = 3\n"):
+            for fall in (0, 5) if "fall" in text else (5,):
+                self.assertEqual(note_of(with_ramp, "c.toml", text, fall),
+                                 "c.toml: a key isn't written as expected; put permit.fall in by hand")
 
     def test_what_is_not_there_or_written_otherwise_is_refused(self):
         self.put("c.toml", TEXT)

@@ -2,7 +2,7 @@
 
 import unittest
 
-from lib.plans import (FAULTS, PARAMETERS, checked_plan, choices, drawn, faults_of, faults_on, numbers_of, onsets_of,
+from lib.plans import (FAULTS, PARAMETERS, checked_plan, choices, drawn, drawn_from, faults_of, faults_on, numbers_of, onsets_of,
                        runs_of)
 from in_folder import InFolder
 from notes import note_of
@@ -105,22 +105,26 @@ class Numbers(unittest.TestCase):
                              "script: a list of values is drawn: its range needs length, and the fault draw")
 
 
+def drawn_one(draws, kind, key, value, last):
+    return drawn(draws, key, *drawn_from(kind, key, value, last))
+
+
 class Drawn(unittest.TestCase):
     def test_lists_have_the_length_that_is_asked(self):
         three = {"from": 10, "to": 19, "length": 3}
-        self.assertEqual(drawn(Counted(0.0, 0.5, 0.99), "script", "values", three, 9), [10, 15, 19])
-        self.assertEqual(drawn(Counted(0.9, 0.1, 0.9), "lapse", "after", three, 9), [11, 19])  # rising, each once
-        self.assertEqual(drawn(Counted(0.9, 0.1), "wild", "opens", {"length": 2}, 9), [True, False])
-        self.assertEqual(len(drawn(Counted(*[0.0] * 64), "script", "values", {"to": 1, "length": 64}, 9)), 64)
+        self.assertEqual(drawn_one(Counted(0.0, 0.5, 0.99), "script", "values", three, 9), [10, 15, 19])
+        self.assertEqual(drawn_one(Counted(0.9, 0.1, 0.9), "lapse", "after", three, 9), [11, 19])  # rising, each once
+        self.assertEqual(drawn_one(Counted(0.9, 0.1), "wild", "opens", {"length": 2}, 9), [True, False])
+        self.assertEqual(len(drawn_one(Counted(*[0.0] * 64), "script", "values", {"to": 1, "length": 64}, 9)), 64)
 
     def test_length_is_a_whole_number(self):
         for length in (0, -1, 65, 3.0, True, "3", 10**400):
-            self.assertEqual(note_of(drawn, Counted(0.5), "script", "values", {"from": 0, "to": 1, "length": length}, 9),
+            self.assertEqual(note_of(drawn_from, "script", "values", {"from": 0, "to": 1, "length": length}, 9),
                              "script: the length of values isn't a whole number from 1 to 64")
 
     def test_single_values_are_those_of_the_choices(self):
-        self.assertEqual(drawn(Counted(0.5), "halt", "onset", {"from": 0}, 9), 5)
-        self.assertEqual(drawn(Counted(0.99), "halt", "onset", [3, 7], 9), 7)
+        self.assertEqual(drawn_one(Counted(0.5), "halt", "onset", {"from": 0}, 9), 5)
+        self.assertEqual(drawn_one(Counted(0.99), "halt", "onset", [3, 7], 9), 7)
 
 
 class Runs(unittest.TestCase):

@@ -3,9 +3,11 @@
 import os
 import tempfile
 import unittest
+from unittest import mock
 
 from notes import note_of
 
+from lib import playing
 from lib.files import TOP
 from lib.playing import Played, Swept, document, own_files, sounds_in
 
@@ -49,6 +51,11 @@ class Playing(unittest.TestCase):
         self.assertEqual(swept.counts, {"halt": {"runs": "3", "none": "1", "torque": "2"},
                                         "path-open": {"runs": "3", "none": "3", "torque": "0"}})
         self.assertEqual(swept.reactions, {"halt": 29, "path-open": None})
+
+    def test_the_files_of_the_call(self):
+        sums = {"/bin/p": (1, "a", "/bin/p"), "c.toml": (1, "b", "c.toml"), "docs/PROVED.md": (1, "c", "/top/docs/PROVED.md")}
+        with mock.patch.object(playing, "program", lambda: "/bin/p"):
+            self.assertEqual(played_of(sums=sums).files(), ["c.toml"])
 
     def test_what_a_page_is_made_from(self):
         names = own_files("own.toml")

@@ -56,9 +56,9 @@ class Program(InFolder):
         shutil.copy("top/out/egasim", "top/egasim")
         self.assertEqual(program(), f"{self.here}/top/egasim")
 
-    def test_launcher_is_asked_for_the_program_that_it_keeps(self):
-        self.launcher('echo "$1" >called\n')
-        self.assertEqual(program(), f"{self.here}/top/out/egasim")
+    def test_launcher_is_asked_once_for_the_program_that_it_keeps(self):
+        self.launcher('echo "$1" >>called\n')
+        self.assertEqual([program(), program()], [f"{self.here}/top/out/egasim"] * 2)
         with open("called", encoding="utf-8") as file:
             self.assertEqual(file.read(), "bound\n")
         os.environ["EGASIM_OUT"] = f"{self.here}/my"

@@ -8,7 +8,8 @@ from unittest import mock
 
 from lib import studies
 from lib.files import read, sum_of
-from lib.studies import Folder, called, cell, copied, name_cell, renamed, ticks_of_drives, write_study
+from lib.keeping import sums_of
+from lib.studies import Folder, called, cell, copied, name_cell, renamed, ticks_of_drives, words_of, write_study
 from in_folder import InFolder
 from notes import note_of
 
@@ -61,9 +62,18 @@ class Studies(InFolder):
         self.assertEqual(sums, {name: sum_of(read(f"s/{name}")) for name in sums})
         self.assertEqual(len(sums), 12)
         used = [line.split("  ")[1] for line in read("s/campaigns/00001.sum").decode().splitlines()]
-        self.assertEqual(used, ["egasim", "inputs/drive-1.csv", "inputs/drive-2.csv", "inputs/image-1.hex",
-                                "campaigns/00001.toml"])
+        self.assertEqual(used, ["egasim", "campaigns/00001.toml", "inputs/drive-1.csv", "inputs/image-1.hex", "inputs/drive-2.csv"])
         self.assertEqual(sorted(os.listdir()), ["=1+1.csv", "b.csv", "i.hex", "p.toml", "program", "s"])
+
+    def test_a_campaign_has_the_checksums_that_are_kept_of_its_table(self):
+        self.put("cal.toml", "x = 1")
+        self.put("c.toml", f'calibration = "cal.toml"\n{PLAN}')
+        for plan, folder in (("p.toml", "s"), ("c.toml", "t")):
+            write_study(plan, folder)
+            own, _, sums = read(f"{folder}/campaigns/00001.sum").decode().partition("\n")
+            self.assertEqual(own, f"{sum_of(read('program'))}  egasim")
+            self.assertEqual(sums, sums_of(words_of(folder, "table", "campaigns/00001.toml"), True, folder))
+        self.assertEqual(words_of("t", "limits"), ["limits", "--cal", "inputs/calibration.toml"])
 
     def test_rows_say_what_each_run_is(self):
         write_study("p.toml", "s")

@@ -4,7 +4,7 @@ import time
 import tomllib
 import unittest
 
-from lib.toml import MOST_DEPTH, MOST_DOTS, key_text, toml_character, toml_in, toml_of, toml_text
+from lib.toml import MOST_DEPTH, MOST_DOTS, key_text, toml_in, toml_of, toml_text
 from notes import note_of
 
 MANY = "a: more than 2000 dots in keys, or 32 in a line"
@@ -57,5 +57,5 @@ class Writing(unittest.TestCase):
 
     def test_texts(self):
         self.assertEqual(toml_text([True, 1, "a"]), '[true, 1, "a"]')
-        self.assertEqual((toml_character("a"), toml_character('"'), toml_character("\n")), ("a", r"\u0022", r"\u000a"))
+        self.assertEqual(toml_text('a"\n\\\x7fä '), r'"a\u0022\u000a\u005c\u007fä "')
         self.assertEqual((key_text("path-1"), key_text(""), key_text("a b")), ("path-1", '""', '"a b"'))

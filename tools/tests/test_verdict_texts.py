@@ -30,6 +30,14 @@ class Texts(InFolder):
         for line in list(tap(VERDICTS))[5:]:
             self.assertIsNone(re.search(r"(?<!\\)(\\\\)*#", line), line)
 
+    def test_where_the_calls_are_kept_is_told(self):
+        said = "k\n<&, whose kept.sum has the SHA-256 0a"
+        self.assertEqual(list(tap(VERDICTS, said))[:-1], list(tap(VERDICTS)))
+        self.assertEqual(list(tap(VERDICTS, said))[-1], "# kept in k\\x0a<&, whose kept.sum has the SHA-256 0a")
+        [[properties, *cases]] = ElementTree.fromstring("\n".join(junit("e.toml", VERDICTS, said)).encode())
+        self.assertEqual([one.attrib for one in properties], [{"name": "kept", "value": said.replace("\n", "\\x0a")}])
+        self.assertEqual(len(cases), len(VERDICTS))
+
     @unittest.skipUnless(shutil.which("prove"), "there is no prove, of Perl")
     def test_prove_reads_it(self):
         self.put("t.tap", "".join(f"{line}\n" for line in tap(VERDICTS)))

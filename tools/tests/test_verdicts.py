@@ -4,10 +4,11 @@ import unittest
 from types import SimpleNamespace
 
 from lib.units import Units
-from lib.verdicts import (FAILS, FITS, OPEN, beyond_point, cut_by, cut_point, evidence_point, lapse_stretch, misses_point, named,
-                          peak_point, points, questions_point, room_point, sentence, time_point, verdict)
+from lib.verdicts import (FAILS, FITS, OPEN, beyond_point, cut_by, cut_point, evidence_point, held_of, is_on_first_ramp,
+                          lapse_point, lapse_stretch, listed_point, misses_point, named, peak_point, points, questions_point,
+                          room_point, sentence, time_point, verdict)
 
-LIMITS = {"reaction": "34", "lapse": "50", "verdicts": "3", "excess": "5", "spacing": "80", "stretch": "38", "peak": "2300"}
+LIMITS = {"reaction": "34", "lapse": "50", "verdicts": "3", "excess": "5", "spacing": "80", "stretch": "38", "peak": "2300", "ramp": "0"}
 WEIGHTS = {"pedal": 10, "plate": 10, "load": 10, "speed": 10, "torque": 5, "answers": 9}
 
 
@@ -28,12 +29,12 @@ def margin_of(name, **weights):
 
 def played_of(**parts):
     rows = [row_of("sound", "none"), shown_by("halt-0", "halt")]
-    return SimpleNamespace(**{"units": Units(), "limits": LIMITS, "period": 10, "rows": rows, "sweeps": [], "sound": ["sound"],
+    return SimpleNamespace(**{"units": Units(), "limits": LIMITS, "period": 10, "has_ramp": False, "rows": rows, "sweeps": [], "sound": ["sound"],
                               "weights": WEIGHTS, "margins": [margin_of("sound", torque="4"), margin_of("halt-0", torque="5")], "blind": [], "resets": lambda name: [], **parts})
 
 
-def asked_of(tolerant=40, falls=1, room=20):
-    return SimpleNamespace(tolerant=tolerant, falls=falls, room=room)
+def asked_of(tolerant=40, falls=1, room=20, said=()):
+    return SimpleNamespace(tolerant=tolerant, falls=falls, room=room, said=said)
 
 
 def limits_of(**numbers):
@@ -55,6 +56,37 @@ class Verdicts(unittest.TestCase):
         slow = limits_of(excess="11", lapse="120")
         self.assertEqual(lapse_stretch(played_of(limits=slow)), 119)
         self.assertEqual(lapse_stretch(played_of(limits={**slow, "lapse": "none"})), None)
+        for limits in (LIMITS, slow, limits_of(lapse="none")):
+            self.assertEqual(lapse_stretch(played_of(limits=limits, has_ramp=True)), None)
+
+    def test_the_ramp_counts_from_the_fall_of_the_demand(self):
+        self.assertEqual([held_of({"ramp": ramp}) for ramp in ("0", "1", "48", "none")], [0, 0, 47, None])
+        self.assertEqual([held_of({"ramp": ramp}, ["--without-held-torque"]) for ramp in ("48", "none")], [0, None])
+        played = played_of(limits=limits_of(ramp="48"), has_ramp=True)
+        for tolerant, said, state in ((86, (), FITS), (85, (), FAILS), (39, ("--without-held-torque",), FITS), (38, ("--without-held-torque",), FAILS)):
+            self.assertEqual(listed_point(played, asked_of(tolerant, 0, said=said))[0], state)
+        self.assertIn("the fall of the demand 85 ticks, of which 47 on the ramp (if no raise is above the permit table), and 85 are tolerated",
+                      listed_point(played, asked_of(86, 0))[1])
+        self.assertIn("(--without-held-torque), an excess lasts 38 ticks in a row at the most, and 38",
+                      listed_point(played, asked_of(39, 0, said=["--without-held-torque"]))[1])
+        for said in ((), ("--without-held-torque",)):
+            never = listed_point(played_of(limits=limits_of(ramp="none"), has_ramp=True), asked_of(said=said))
+            self.assertEqual((never[0], "(ramp none)" in never[1]), (FAILS, True))
+
+    def test_a_word_says_that_there_are_no_lapses(self):
+        for has_ramp in (False, True):
+            played = played_of(has_ramp=has_ramp)
+            self.assertEqual([lapse_point(played, asked_of(said=said))[0] for said in ((), ("--without-lapses",))], [FAILS if has_ramp else FITS, FITS])
+            self.assertIn("as was said (--without-lapses)", lapse_point(played, asked_of(said=["--without-lapses"]))[1])
+
+    def test_a_recording_may_begin_on_a_ramp(self):
+        self.assertEqual([is_on_first_ramp(7, {"ramp": ramp}) for ramp in ("0", "7", "8", "none")], [False, False, True, True])
+
+    def test_why_there_is_no_bound_for_lapses(self):
+        for has_ramp, reason in ((False, "no bound is known for how long an excess lasts: right verdicts may take back"),
+                                 (True, "no bound holds for how long an excess lasts: with a ramp (permit.fall)")):
+            told = [words for _, words in points(played_of(limits=limits_of(excess="11", lapse="none"), has_ramp=has_ramp), asked_of())]
+            self.assertEqual([words.startswith(f"Under lapses, which aren't listed, {reason}") for words in told].count(True), 1)
 
     def test_sound_drives_are_those_that_are_declared(self):
         self.assertEqual(cut_point(played_of())[0], FITS)
@@ -95,6 +127,7 @@ class Verdicts(unittest.TestCase):
                          "less 1, since it may begin between two ticks, and less 1 (10 ms) for the torque to fall after the cut.")
         self.assertIn("by 2300 tenths of Nm (230 Nm) at the most", peak_point(played_of(units=units))[1])
         self.assertIn("80 (800 ms) or more apart", misses_point(played_of(units=units))[1])
+        self.assertEqual([misses_point(played_of(has_ramp=ramp))[1].endswith("at a missed tick.") for ramp in (False, True)], [False, True])
         self.assertEqual(cut_by({"cut": "torque", "cut_at": "9"}, units), "by torque at 9 (90 ms)")
 
     def test_missed_ticks(self):
