@@ -1,5 +1,7 @@
 //! The rules of levels 2 and 3 and of the engine, and the numbers that they use.
 
+use crate::KEEPS;
+
 /// Strictly rising points, with a value at each.
 pub struct Table {
     pub points: Vec<u16>,
@@ -38,18 +40,18 @@ pub struct Readings {
 
 /// A test row.
 pub struct TestRow {
-    seed: u16,
+    pub seed: u16,
     readings: Readings,
     used: u16,
     estimate: u16,
     allowed: u16,
 }
 
-/// A question: the seed of its row, and what level 2 is to compute of the row. The results are those of modules
-/// 1 to 5, which are the same each time.
+/// A question: its row, and what level 2 is to compute of the row. The results are those of modules 1 to 5, which are
+/// the same each time.
 pub struct Question {
-    pub seed: u16,
-    pub results: [u16; 5],
+    pub row: TestRow,
+    results: [u16; 5],
     pub answer: u16,
 }
 
@@ -141,24 +143,35 @@ pub fn reference() -> Calibration {
         },
         questions: Vec::new(),
     };
-    calibration.questions = rows().iter().map(|row| calibration.question(row)).collect();
+    calibration.questions = rows().into_iter().map(|row| calibration.question(row)).collect();
     calibration
 }
 
 impl Calibration {
     /// The question that a test row is.
-    pub fn question(&self, row: &TestRow) -> Question {
-        let read = &row.readings;
-        let raise = checked_raise(read.raise, read.check);
-        let results = [
-            lower_pedal(read.pedal),
-            self.permit.demand(row.used, read.speed, raise),
-            estimate(read.load[0].max(read.load[1]), self.kt),
-            u16::from(exceeds(row.estimate, row.allowed, self.threshold)),
-            pair_bits(read, &self.tolerances),
-        ];
+    pub fn question(&self, row: TestRow) -> Question {
+        let results = [1, 2, 3, 4, 5].map(|module| self.computed(&row, module));
         let answer = results.iter().fold(row.seed, |sign, result| folded(sign, *result));
-        Question { seed: row.seed, results, answer }
+        Question { row, results, answer }
+    }
+
+    /// What a module from 1 to 5 computes of a test row.
+    #[inline(always)]
+    fn computed(&self, row: &TestRow, module: usize) -> u16 {
+        let read = &row.readings;
+        match module {
+            1 => lower_pedal(read.pedal),
+            2 => self.permit.demand(row.used, read.speed, checked_raise(read.raise, read.check)),
+            3 => estimate(read.load[0].max(read.load[1]), self.kt),
+            4 => u16::from(exceeds(row.estimate, row.allowed, self.threshold)),
+            _ => pair_bits(read, &self.tolerances),
+        }
+    }
+
+    /// The same of a question.
+    #[inline(always)]
+    pub fn result(&self, question: &Question, module: usize) -> u16 {
+        if KEEPS { question.results[module - 1] } else { self.computed(&question.row, module) }
     }
 
     /// The permitted torque of a tick with this demand: it may lie below that of the tick before by the fall.

@@ -92,8 +92,9 @@ fn unanswered(bytes: &[u8]) -> Result<(Calibration, Vec<u16>), Refusal> {
         times,
         questions: Vec::new(),
     };
-    calibration.questions = rows.iter().map(|(row, _)| calibration.question(row)).collect();
-    Ok((calibration, rows.iter().map(|(_, answer)| *answer).collect()))
+    let (rows, answers): (Vec<_>, _) = rows.into_iter().unzip();
+    calibration.questions = rows.into_iter().map(|row| calibration.question(row)).collect();
+    Ok((calibration, answers))
 }
 
 impl PermitPart {

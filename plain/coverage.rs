@@ -11,9 +11,8 @@ enum Off {
     Below(Option<u32>),
 }
 
-fn line(class: &str, case: &str, effect: &str, finds: &str, within: Option<u32>, off: Off) -> String {
+fn line(class: &str, case: &str, effect: &str, finds: &str, within: Option<u32>, off: Off, hidden: &str) -> String {
     let within = within.map_or("-".to_string(), |ticks| ticks.to_string());
-    let hidden = u8::from(finds == "-");
     let off = match off {
         Off::From(ticks) => ticks.to_string(),
         Off::Confirmed(ticks) => format!("confirmed + {ticks}"),
@@ -25,12 +24,12 @@ fn line(class: &str, case: &str, effect: &str, finds: &str, within: Option<u32>,
 
 /// A fault that is found by this watch.
 fn found(class: &str, case: &str, effect: &str, watch: &str, within: u32, off: Off) -> String {
-    line(class, case, effect, watch, Some(within), off)
+    line(class, case, effect, watch, Some(within), off, "0")
 }
 
 /// A fault that may stay hidden.
 fn unfound(class: &str, case: &str, effect: &str, off: Off) -> String {
-    line(class, case, effect, "-", None, off)
+    line(class, case, effect, "-", None, off, "1")
 }
 
 /// The header, and the rows in the order of the classes, a line each.
@@ -65,6 +64,7 @@ pub fn lines(cal: &Calibration) -> Vec<String> {
         lines.push(found(&class, "with a reset", &effect, "start", test + 1, Off::From(0)));
     }
     lines.push(unfound("path-open", "either path", "cut without need", Off::From(0)));
-    lines.push(unfound("lapse", "level 2 left out at times", "late cut", Off::Below(cal.lapse_bound())));
+    let hidden = if cal.times.miss_spacing().is_some() { "1" } else { "-" };
+    lines.push(line("lapse", "level 2 left out at times", "late cut", "-", None, Off::Below(cal.lapse_bound()), hidden));
     lines
 }

@@ -26,7 +26,7 @@ pub struct Machine {
     pub state: State,
 }
 
-const CODE: usize = 1024;
+pub const CODE: usize = 1024;
 
 /// An instruction, as it was decoded when the run began: no code changes in a run.
 #[derive(Clone, Copy)]
@@ -81,7 +81,7 @@ fn decode(word: u16, next: u16) -> Instruction {
 }
 
 #[inline(always)]
-fn may_load(at: u16) -> bool {
+pub fn may_load(at: u16) -> bool {
     at < 2058 || (2064..=2065).contains(&at) || (2080..=2084).contains(&at)
 }
 
@@ -108,27 +108,39 @@ impl Machine {
 
     /// Wakes a machine that waits, and does at most so many instructions.
     pub fn slice(&mut self, words: &mut Words, budget: u16) {
-        if let State::Trapped(_) = self.state {
-            return;
-        }
-        self.state = State::Running;
-        let mut pc = self.pc;
-        for _ in 0..budget {
-            let Some(instruction) = self.code.get(pc) else {
-                self.state = State::Trapped(Trap::Fetch);
+        let Machine { code, registers, pc, state } = self;
+        slice(state, pc, budget, |pc| Some(step(registers, words, code.get(pc)?, pc + 1)));
+    }
+}
+
+/// A slice of at most so many steps, of which none is there behind the code.
+#[inline(always)]
+pub fn slice(
+    state: &mut State,
+    at: &mut usize,
+    budget: u16,
+    mut step: impl FnMut(usize) -> Option<Result<usize, State>>,
+) {
+    if let State::Trapped(_) = *state {
+        return;
+    }
+    *state = State::Running;
+    let mut pc = *at;
+    for _ in 0..budget {
+        let Some(done) = step(pc) else {
+            *state = State::Trapped(Trap::Fetch);
+            break;
+        };
+        match done {
+            Ok(next) => pc = next,
+            Err(ended) => {
+                pc += usize::from(ended == State::Waiting);
+                *state = ended;
                 break;
-            };
-            match step(&mut self.registers, words, instruction, pc + 1) {
-                Ok(next) => pc = next,
-                Err(state) => {
-                    pc += usize::from(state == State::Waiting);
-                    self.state = state;
-                    break;
-                }
             }
         }
-        self.pc = pc;
     }
+    *at = pc;
 }
 
 /// One instruction: where the next one stands, or the state that ends the slice.
@@ -168,12 +180,12 @@ fn step(
 }
 
 #[inline(always)]
-fn load(words: &Words, at: u16) -> Result<u16, State> {
+pub fn load(words: &Words, at: u16) -> Result<u16, State> {
     if may_load(at) { Ok(words[usize::from(at)]) } else { Err(State::Trapped(Trap::Load)) }
 }
 
 #[inline(always)]
-fn store(words: &mut Words, at: u16, word: u16) -> Result<(), State> {
+pub fn store(words: &mut Words, at: u16, word: u16) -> Result<(), State> {
     if !may_store(at) {
         return Err(State::Trapped(Trap::Store));
     }

@@ -1,5 +1,6 @@
 //! Level 2: eight modules over mirrored words.
 
+use crate::KEEPS;
 use crate::calibration::{
     Calibration, Question, Readings, checked_raise, estimate, exceeds, folded, lower_pedal, pair_bits,
 };
@@ -125,7 +126,7 @@ impl Rules<'_> {
         keep(words, TOKEN, next_token(words[TOKEN], 0));
         keep(words, FLOW, words[FLOW] | if gap { BROKEN } else { 0 });
         keep(words, LAST, tick);
-        keep(words, SIGN, self.asked.seed);
+        keep(words, SIGN, self.asked.row.seed);
         false
     }
 
@@ -133,7 +134,7 @@ impl Rules<'_> {
     #[inline(always)]
     fn write(&self, words: &mut Words, module: usize, signal: u16, disturbance: u16) {
         let value = if words[TRIP] != 0 { 0 } else { signal ^ disturbance };
-        let result = self.asked.results[module - 1] ^ disturbance;
+        let result = self.cal.result(self.asked, module) ^ disturbance;
         keep(words, SIGNALS + module - 1, value);
         keep(words, TOKEN, next_token(words[TOKEN], module));
         keep(words, SIGN, folded(words[SIGN], result));
@@ -149,7 +150,7 @@ impl Rules<'_> {
     pub fn permitted(&self, words: &mut Words, disturbance: u16) {
         let (pedal, speeds) = (words[USED], pair(words, 6));
         let raise = checked_raise(words[PORTS + 8], words[PORTS + 9]);
-        let is_known = pedal == self.known.pedal && speeds == [self.known.speed; 2];
+        let is_known = KEEPS && pedal == self.known.pedal && speeds == [self.known.speed; 2];
         let demand = if is_known {
             self.known.torque.max(raise)
         } else {

@@ -10,6 +10,9 @@
 //! record [--cal NAME] CAMPAIGN RUN, couple [--cal NAME] CAMPAIGN RUN, sweep [--cal NAME] CAMPAIGN RUN STEP,
 //! soak SEED RUNS, replay [--cal NAME], signals [--cal NAME], asm FILE, dis FILE
 
+// The name `anew` is no other's (`KEEPS`).
+#![allow(unexpected_cfgs)]
+
 mod calibration;
 mod calibration_file;
 mod campaign;
@@ -19,6 +22,7 @@ mod engine;
 mod fault;
 mod files;
 mod keys;
+#[cfg_attr(anew, path = "../bench/machine.rs")]
 mod level1;
 mod level2;
 mod level3;
@@ -50,6 +54,10 @@ use couple::{Coupled, Partner};
 use measurement::Measurement;
 use replay::{Level2, Summary};
 use unit::{Run, play};
+
+/// Whether a run keeps what doesn't change in it: the results of test rows, and what the permit table gives for a
+/// drive row. With `--cfg anew` (`bench/unit`) these are worked out at each tick, and each step of level 1 decodes.
+const KEEPS: bool = !cfg!(anew);
 
 /// Why nothing was done.
 pub enum End {

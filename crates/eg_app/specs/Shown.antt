@@ -2,7 +2,7 @@
 -- byte of a control character is a backslash, `x` and two hexadecimal digits, and a backslash is two. Names
 -- are UTF-8, in which the control characters are the bytes below 32, the byte 127, and 194 with one of 128 to
 -- 159 behind it.
-use Rattle.std.specs.Prelude.{◌≡◌, ℕ, ◌≤◌, ◌==◌, Bool, ◌&&◌, ◌||◌, nat_lt, nat_le, IsTrue, List, [], ◌∷◌, ◌++◌, codes, get_or, if◌then◌else◌, Result, OnOk, OnErr, IsErr}
+use Rattle.std.specs.Prelude.{◌≡◌, ℕ, ◌≤◌, ◌==◌, Bool, ◌&&◌, ◌||◌, nat_lt, nat_le, IsTrue, List, [], ◌∷◌, ◌++◌, codes, get_or, if◌then◌else◌, Result, OnOk, OnErr}
 use Rattle.hex.specs.Hex.{encode_lower}
 use Rattle.eg_base.specs.Outside.{ShownSink, Rose, Appends, AppendsPrefix}
 

@@ -123,6 +123,15 @@ number_in digits least most word = option_and_then (within least most) (decimal 
 abbrev pub step_in : List ℕ → Option ℕ
 step_in word = number_in 5 1 20000 word
 
+-- what is to be done with one run of a campaign, where the names of both stand from place `own` on
+unfoldable pub run_work_of : List (List ℕ) → ℕ → Option Work
+run_work_of words own = if is_on_run (codes "record") words own 2 then
+    Some (record_run (word words own) (word words (own + 1)))
+    else if is_on_run (codes "couple") words own 2 then Some (couple (word words own) (word words (own + 1)))
+    else if is_on_run (codes "sweep") words own 3 then
+    option_map (sweep (word words own) (word words (own + 1))) (step_in (word words (own + 2)))
+    else None
+
 -- what is to be done by a calibration, where the command's own words, if it has any, begin at place `own`
 unfoldable pub work_of : List (List ℕ) → ℕ → Option Work
 work_of words own = if is_alone (codes "bound") words own then Some bound
@@ -134,12 +143,7 @@ work_of words own = if is_alone (codes "bound") words own then Some bound
     else if is_on_file (codes "run") words own then Some (run Report (word words own))
     else if is_on_file (codes "table") words own then Some (run (Rows Table) (word words own))
     else if is_on_file (codes "margins") words own then Some (run (Rows Margins) (word words own))
-    else if is_on_run (codes "record") words own 2 then
-    Some (record_run (word words own) (word words (own + 1)))
-    else if is_on_run (codes "couple") words own 2 then Some (couple (word words own) (word words (own + 1)))
-    else if is_on_run (codes "sweep") words own 3 then
-    option_map (sweep (word words own) (word words (own + 1))) (step_in (word words (own + 2)))
-    else None
+    else run_work_of words own
 
 -- a seed is any word of 32 bits; there are 1 to 500 runs
 abbrev pub seed_in : List ℕ → Option ℕ

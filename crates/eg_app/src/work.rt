@@ -2,7 +2,7 @@
 ghost use Rattle.std.specs.Prelude.{◌≡◌, ◌≤◌, ◌+◌, length, option_map, IfSome};
 ghost use Rattle.std.specs.Option.{option_copied};
 ghost use Rattle.eg_app.specs.Notes.{checked_by};
-ghost use Rattle.eg_app.specs.Words.{word_bytes, campaign_in, said_work, run, step_in, sweep, word, work_of, WorkKeepsLimits};
+ghost use Rattle.eg_app.specs.Words.{word_bytes, campaign_in, said_work, run, run_work_of, step_in, sweep, word, work_of, WorkKeepsLimits};
 
 use crate::forms::{is_alone, is_on_file, is_on_run};
 use crate::number::number_in;
@@ -72,6 +72,17 @@ impl<'a> Work<'a> {
         if is_on_file("margins", words, own) {
             return Some(Work::told(Telling::Rows(Columns::Margins), words[own].as_str()));
         }
+        Work::of_run(words, own)
+    }
+
+    /// What the words ask for of one run; or None where they have no form of such work.
+    #[tactic(auto, unfolding(crate::specs::Words::run_work_of))]
+    fn of_run(words: &'a [String], own: usize) -> Option<Work<'a>>
+        requires least { 1 ≤ own }
+        requires most { own ≤ 3 }
+        ensures work { option_map said_work result ≡ run_work_of (word_bytes words.now) own }
+        ensures limits { IfSome result (λ work. WorkKeepsLimits (said_work work)) }
+    {
         if is_on_run("record", words, own, 2) {
             return Some(Work::Record {
                 run: named(words, own),

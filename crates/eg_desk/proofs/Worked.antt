@@ -4,7 +4,7 @@ use Rattle.std.specs.Fmt.{digits}
 use Rattle.eg_values.specs.Reference.{reference_questions}
 use Rattle.eg_desk.specs.declared.coverage.CoverageTicks.{CoverageTicks}
 use Rattle.eg_desk.specs.declared.limit.Limits.{Limits}
-use Rattle.eg_desk.specs.Coverage.{lapse_off, numbers_of, case_words, within_text, off_text, hidden_text, coverage_text}
+use Rattle.eg_desk.specs.Coverage.{lapse_off, lapse_hidden, numbers_of, case_words, case_stakes, within_text, off_text, hidden_text, coverage_text}
 use Rattle.eg_desk.specs.Texts.{number_or_none, limits_text, answer_lines, answers_text}
 
 abbrev some_limits : Limits
@@ -30,7 +30,7 @@ unfolding digits answer_lines
 answers_known = refl
 
 abbrev some_ticks : CoverageTicks
-some_ticks = record { pair = 5; reaction = 34; test = 40; lapse = Some 50 }
+some_ticks = record { pair = 5; reaction = 34; test = 40; lapse = Some 50; spacing = Some 56 }
 
 coverage_known : coverage_text some_ticks
     ≡ codes "class,case,effect,finds,within,off,hidden\n"
@@ -62,5 +62,5 @@ coverage_known : coverage_text some_ticks
     ++ codes "path2-closed,with a reset,no cut by path 2,start,41,0,0\n"
     ++ codes "path-open,either path,cut without need,-,-,0,1\n"
     ++ codes "lapse,level 2 left out at times,late cut,-,-,excess < 50,1\n"
-unfolding digits lapse_off numbers_of case_words within_text off_text hidden_text coverage_text
+unfolding digits lapse_off lapse_hidden numbers_of case_words case_stakes within_text off_text hidden_text coverage_text
 coverage_known = refl

@@ -3,6 +3,7 @@
 -- stay hidden where a row says so: of a script within the tolerance nothing is said. Rows of a record stand
 -- newest first.
 use Rattle.std.specs.Prelude.{◌≡◌, ◌==◌, ◌⊎◌, ℕ, ◌+◌, ◌≤◌, ◌<◌, Bool, true, false, not, ◌&&◌, max, nat_le, List, [], ◌∷◌, ◌++◌, All, length, Option, Some, None}
+use Rattle.eg_answer.specs.Times.{HasMissSpacing}
 use Rattle.eg_values.specs.Calibration.{CalibrationParts, IsAccepted}
 use Rattle.eg_values.specs.Excess.{BoundsLapses}
 use Rattle.eg_plant.specs.declared.engine_kind.EngineKind.{EngineKind}
@@ -69,10 +70,10 @@ abbrev pub OffOrdered : Off → (ℕ → Type 0) → Type 0
 OffOrdered (Ordered n) P = P n
 OffOrdered _ P = ⊥
 
--- of `hidden`: P where it is 1
-abbrev pub HiddenIn : Bool → Type 0 → Type 0
-HiddenIn true P = P
-HiddenIn false P = ⊥
+-- of `hidden`, which is 1
+abbrev pub HiddenIn : Option Bool → Type 0 → Type 0
+HiddenIn (Some true) P = P
+HiddenIn _ P = ⊥
 
 -- ---- the rows of a span that begins at tick `start`, or of its part up to any tick ----
 
@@ -177,27 +178,33 @@ MeansUnfound cal meant hides row = (row.within ≡ None) × HiddenIn row.hidden 
 
 -- the pair of the pedal is found, and the stages are off after a confirmed excess
 abbrev pub MeansPedal : CalibrationParts → (Class → Bool) → CoverageRow → Type 0
-MeansPedal cal meant row = (row.hidden ≡ false) × OfRuns cal meant (λ s fault rows.
+MeansPedal cal meant row = (row.hidden ≡ Some false) × OfRuns cal meant (λ s fault rows.
     FoundIn row.within (λ n. EachDriveSpan (FindsApart pedal_pair s n) rows)
     × OffConfirmed row.off (ReactsIn s rows))
 
 -- another pair is found and cut
 abbrev pub MeansApart : CalibrationParts → (Class → Bool) → Pair → CoverageRow → Type 0
-MeansApart cal meant pair row = (row.hidden ≡ false) × OfRuns cal meant (λ s fault rows.
+MeansApart cal meant pair row = (row.hidden ≡ Some false) × OfRuns cal meant (λ s fault rows.
     FoundIn row.within (λ n. EachDriveSpan (FindsApart pair s n) rows)
     × OffAfter row.off (λ n. EachDriveSpan (CutsApart pair s n) rows))
 
 -- the answers are found, and the stages are off, from the onset on
 abbrev pub MeansSpoiled : CalibrationParts → (Class → Bool) → CoverageRow → Type 0
-MeansSpoiled cal meant row = (row.hidden ≡ false) × OfRuns cal meant (λ s fault rows.
+MeansSpoiled cal meant row = (row.hidden ≡ Some false) × OfRuns cal meant (λ s fault rows.
     FoundIn row.within (λ n. EachDriveSpan (FindsAnswersWithin fault.onset n) rows)
     × OffAfter row.off (λ n. EachDriveSpan (IsOffFrom fault.onset n) rows))
 
 -- a test finds a path that is held closed, and the stages are off
 abbrev pub MeansTested : CalibrationParts → ClassName → CoverageRow → Type 0
-MeansTested cal name row = (row.hidden ≡ false) × OfRuns cal (is_of name) (λ s fault rows.
+MeansTested cal name row = (row.hidden ≡ Some false) × OfRuns cal (is_of name) (λ s fault rows.
     FoundIn row.within (λ n. FindsClosed fault n rows)
     × OffAfter row.off (λ n. EachTestSpan (IsOffSince n) rows))
+
+-- that lapses can stay hidden, and that there is such a spacing of their misses; or that there is none
+abbrev pub MeansSpaced : CalibrationParts → Option Bool → Type 0
+MeansSpaced cal (Some true) = HasMissSpacing cal.times × FarMissesStay
+MeansSpaced cal None = ¬ HasMissSpacing cal.times
+MeansSpaced cal _ = ⊥
 
 -- how long an excess lasts under a lapse, or that there is no bound
 abbrev pub MeansLapse : CalibrationParts → Off → Type 0
@@ -228,7 +235,7 @@ RowMeans cal case.Bus row = MeansUnfound cal (is_of name.Bus) (AllHideAtRest cal
 RowMeans cal case.Plate row = MeansUnfound cal (is_of name.Plate) (AllHide cal (is_of name.Plate)) row
 RowMeans cal case.Skip row = MeansSpoiled cal (is_of name.Skip) row
 RowMeans cal case.Disturb row = MeansSpoiled cal (is_of name.Disturb) row
-RowMeans cal case.Flip row = (row.hidden ≡ false) × OfRuns cal (is_of name.Flip) (λ s fault rows.
+RowMeans cal case.Flip row = (row.hidden ≡ Some false) × OfRuns cal (is_of name.Flip) (λ s fault rows.
     FoundIn row.within (λ n. FindsFlip fault.onset n rows)
     × OffAfter row.off (λ n. EachDriveSpan (IsOffAfterFlip fault.onset n) rows))
 RowMeans cal case.Halt row = MeansSpoiled cal (is_of name.Halt) row
@@ -252,7 +259,7 @@ RowMeans cal case.PathOpen row = (row.within ≡ None) × HiddenIn row.hidden (A
     × OfRuns cal (is_of name.PathOpen) (λ s fault rows.
     OffAfter row.off (λ n. EachDriveSpan (IsOffFrom fault.onset n) rows))
 RowMeans cal case.Lapse row =
-    (row.within ≡ None) × HiddenIn row.hidden FarMissesStay × MeansLapse cal row.off
+    (row.within ≡ None) × MeansSpaced cal row.hidden × MeansLapse cal row.off
 
 -- the law: by each calibration the numbers of the row of each case mean that
 abbrev pub NumbersMean : Type 0

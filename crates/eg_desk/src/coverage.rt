@@ -1,10 +1,10 @@
 // What finds each class of fault, and within which time.
 ghost use Rattle.std.specs.Prelude.{◌≡◌, ◌≤◌, ◌++◌, IfOk, OnOk, string_bytes};
 ghost use Rattle.eg_outcome.specs.Changes.{change_of};
-ghost use Rattle.eg_desk.specs.Coverage.{AreTicks, found, unfound, lapse_off, numbers_of, case_words, within_text, off_text, hidden_text, coverage_line, coverage_lines, coverage_text, TellsCoverage};
+ghost use Rattle.eg_desk.specs.Coverage.{AreTicks, found, unfound, lapse_off, lapse_hidden, numbers_of, case_words, case_stakes, within_text, off_text, hidden_text, coverage_line, coverage_lines, coverage_text, TellsCoverage};
 
 use crate::limit::lapse_of;
-use eg_answer::{feeds_to_confirm, reaction};
+use eg_answer::{feeds_to_confirm, miss_spacing, reaction};
 use eg_base::{NoMemory, Sink};
 use eg_module::test_ticks;
 use eg_outcome::{Outcome, put_text};
@@ -107,66 +107,71 @@ impl CoverageCase {
         CoverageCase::Lapse,
     ];
 
-    /// The first four fields of its row: its class, the case, what is at stake, and what finds it.
+    /// The first two fields of its row: its class and the case.
     #[tactic(auto, unfolding(crate::specs::Coverage::case_words))]
     fn words(self) -> &'static str
         ensures { result.now ≡ case_words self }
     {
         match self {
-            CoverageCase::ScriptPedal => {
-                "script,pedal apart by more than its tolerance,wrong pedal is seen,pedal"
+            CoverageCase::ScriptPedal => "script,pedal apart by more than its tolerance",
+            CoverageCase::ScriptPlate => "script,plate apart by more than its tolerance",
+            CoverageCase::ScriptLoad => "script,load apart by more than its tolerance",
+            CoverageCase::ScriptSpeed => "script,speed apart by more than its tolerance",
+            CoverageCase::ScriptWithin => "script,any pair apart within its tolerance",
+            CoverageCase::ScriptContact => "script,a contact of the brake",
+            CoverageCase::OffsetPedal => "offset,pedal apart by more than its tolerance",
+            CoverageCase::OffsetPlate => "offset,plate apart by more than its tolerance",
+            CoverageCase::OffsetLoad => "offset,load apart by more than its tolerance",
+            CoverageCase::OffsetSpeed => "offset,speed apart by more than its tolerance",
+            CoverageCase::OffsetWithin => "offset,any pair apart within its tolerance",
+            CoverageCase::OffsetContact => "offset,a contact of the brake",
+            CoverageCase::Bus => "bus,any mask",
+            CoverageCase::Plate => "plate,any angle",
+            CoverageCase::Skip => "skip,any module",
+            CoverageCase::Disturb => "disturb,any module",
+            CoverageCase::Flip => "flip,any word",
+            CoverageCase::Halt => "halt,both levels",
+            CoverageCase::TimingOutside => "timing,answers outside the window",
+            CoverageCase::TimingInside => "timing,answers inside the window",
+            CoverageCase::WildOpens => "wild,opens path 2 at times",
+            CoverageCase::WildNever => "wild,never opens path 2",
+            CoverageCase::Path1Driven => "path1-closed,without a reset",
+            CoverageCase::Path1Tested => "path1-closed,with a reset",
+            CoverageCase::Path2Driven => "path2-closed,without a reset",
+            CoverageCase::Path2Tested => "path2-closed,with a reset",
+            CoverageCase::PathOpen => "path-open,either path",
+            CoverageCase::Lapse => "lapse,level 2 left out at times",
+        }
+    }
+
+    /// The two behind them: what is at stake, and what finds it.
+    #[tactic(auto, unfolding(crate::specs::Coverage::case_stakes))]
+    fn stakes(self) -> &'static str
+        ensures { result.now ≡ case_stakes self }
+    {
+        match self {
+            CoverageCase::ScriptPedal | CoverageCase::OffsetPedal => ",wrong pedal is seen,pedal",
+            CoverageCase::ScriptPlate | CoverageCase::OffsetPlate => ",wrong plate is seen,plate",
+            CoverageCase::ScriptLoad | CoverageCase::OffsetLoad => ",wrong load is seen,load",
+            CoverageCase::ScriptSpeed | CoverageCase::OffsetSpeed => ",wrong speed is seen,speed",
+            CoverageCase::ScriptWithin
+            | CoverageCase::ScriptContact
+            | CoverageCase::OffsetWithin
+            | CoverageCase::OffsetContact => ",level 2 errs to the safe side,-",
+            CoverageCase::Bus => ",raise taken as 0,-",
+            CoverageCase::Plate => ",torque not as ordered,-",
+            CoverageCase::Skip | CoverageCase::Disturb | CoverageCase::TimingOutside => {
+                ",no answer is right,answers"
             }
-            CoverageCase::ScriptPlate => {
-                "script,plate apart by more than its tolerance,wrong plate is seen,plate"
-            }
-            CoverageCase::ScriptLoad => {
-                "script,load apart by more than its tolerance,wrong load is seen,load"
-            }
-            CoverageCase::ScriptSpeed => {
-                "script,speed apart by more than its tolerance,wrong speed is seen,speed"
-            }
-            CoverageCase::ScriptWithin => {
-                "script,any pair apart within its tolerance,level 2 errs to the safe side,-"
-            }
-            CoverageCase::ScriptContact => {
-                "script,a contact of the brake,level 2 errs to the safe side,-"
-            }
-            CoverageCase::OffsetPedal => {
-                "offset,pedal apart by more than its tolerance,wrong pedal is seen,pedal"
-            }
-            CoverageCase::OffsetPlate => {
-                "offset,plate apart by more than its tolerance,wrong plate is seen,plate"
-            }
-            CoverageCase::OffsetLoad => {
-                "offset,load apart by more than its tolerance,wrong load is seen,load"
-            }
-            CoverageCase::OffsetSpeed => {
-                "offset,speed apart by more than its tolerance,wrong speed is seen,speed"
-            }
-            CoverageCase::OffsetWithin => {
-                "offset,any pair apart within its tolerance,level 2 errs to the safe side,-"
-            }
-            CoverageCase::OffsetContact => {
-                "offset,a contact of the brake,level 2 errs to the safe side,-"
-            }
-            CoverageCase::Bus => "bus,any mask,raise taken as 0,-",
-            CoverageCase::Plate => "plate,any angle,torque not as ordered,-",
-            CoverageCase::Skip => "skip,any module,no answer is right,answers",
-            CoverageCase::Disturb => "disturb,any module,no answer is right,answers",
-            CoverageCase::Flip => "flip,any word,a wrong word of level 2,mirror",
-            CoverageCase::Halt => "halt,both levels,outputs stay as they are,answers",
-            CoverageCase::TimingOutside => {
-                "timing,answers outside the window,no answer is right,answers"
-            }
-            CoverageCase::TimingInside => "timing,answers inside the window,none,-",
-            CoverageCase::WildOpens => "wild,opens path 2 at times,cut without need,-",
-            CoverageCase::WildNever => "wild,never opens path 2,no cut by path 2,-",
-            CoverageCase::Path1Driven => "path1-closed,without a reset,no cut by path 1,-",
-            CoverageCase::Path1Tested => "path1-closed,with a reset,no cut by path 1,start",
-            CoverageCase::Path2Driven => "path2-closed,without a reset,no cut by path 2,-",
-            CoverageCase::Path2Tested => "path2-closed,with a reset,no cut by path 2,start",
-            CoverageCase::PathOpen => "path-open,either path,cut without need,-",
-            CoverageCase::Lapse => "lapse,level 2 left out at times,late cut,-",
+            CoverageCase::Flip => ",a wrong word of level 2,mirror",
+            CoverageCase::Halt => ",outputs stay as they are,answers",
+            CoverageCase::TimingInside => ",none,-",
+            CoverageCase::WildOpens | CoverageCase::PathOpen => ",cut without need,-",
+            CoverageCase::WildNever | CoverageCase::Path2Driven => ",no cut by path 2,-",
+            CoverageCase::Path1Driven => ",no cut by path 1,-",
+            CoverageCase::Path1Tested => ",no cut by path 1,start",
+            CoverageCase::Path2Tested => ",no cut by path 2,start",
+            CoverageCase::Lapse => ",late cut,-",
         }
     }
 }
@@ -193,8 +198,8 @@ pub struct CoverageRow {
     pub within: Option<u32>,
     /// When the stages are off.
     pub off: Off,
-    /// A run of any length may show nothing of it.
-    pub hidden: bool,
+    /// Whether a run of any length may show nothing of it; None where nothing is known of it.
+    pub hidden: Option<bool>,
 }
 
 /// What the numbers of all rows are made of.
@@ -208,6 +213,8 @@ pub struct CoverageTicks {
     pub test: u32,
     /// The bound for lapses, if there is one.
     pub lapse: Option<u32>,
+    /// How far apart missed runs of level 2 never make wrong answers cut, if there is such a distance.
+    pub spacing: Option<u32>,
 }
 
 /// What the numbers of the rows are made of, by this calibration.
@@ -221,6 +228,7 @@ fn ticks_of(calibration: &Calibration) -> CoverageTicks
         reaction: reaction(times),
         test: test_ticks(times),
         lapse: lapse_of(calibration),
+        spacing: miss_spacing(times),
     }
 }
 
@@ -231,18 +239,18 @@ fn found(within: u32, off: Off) -> CoverageRow
     CoverageRow {
         within: Some(within),
         off,
-        hidden: false,
+        hidden: Some(false),
     }
 }
 
-/// The row of a fault that nothing need find.
+/// The row of a fault that nothing need find, and that can stay hidden.
 fn unfound(off: Off) -> CoverageRow
     ensures { result ≡ unfound off }
 {
     CoverageRow {
         within: None,
         off,
-        hidden: true,
+        hidden: Some(true),
     }
 }
 
@@ -254,6 +262,17 @@ fn lapse_off(bound: Option<u32>) -> Off
     match bound {
         Some(bound) => Off::Excess(bound),
         None => Off::Never,
+    }
+}
+
+/// Whether a lapse can stay hidden: where there is a distance at which its misses never cut.
+#[tactic(auto, unfolding(crate::specs::Coverage::lapse_hidden))]
+fn lapse_hidden(spacing: Option<u32>) -> Option<bool>
+    ensures { result ≡ lapse_hidden spacing }
+{
+    match spacing {
+        Some(_) => Some(true),
+        None => None,
     }
 }
 
@@ -284,7 +303,11 @@ fn numbers_of(ticks: &CoverageTicks, case: CoverageCase) -> CoverageRow
         CoverageCase::WildOpens => unfound(Off::Ordered(1)),
         CoverageCase::Path1Driven => unfound(Off::Confirmed(ticks.reaction)),
         CoverageCase::PathOpen => unfound(Off::After(0)),
-        CoverageCase::Lapse => unfound(lapse_off(ticks.lapse)),
+        CoverageCase::Lapse => CoverageRow {
+            within: None,
+            off: lapse_off(ticks.lapse),
+            hidden: lapse_hidden(ticks.spacing),
+        },
         _ => unfound(Off::Confirmed(1)),
     }
 }
@@ -335,6 +358,7 @@ fn push_row(text: &mut String, ticks: &CoverageTicks, case: CoverageCase) -> Res
 {
     let row = numbers_of(ticks, case);
     text.push_str(case.words())?;
+    text.push_str(case.stakes())?;
     push_within(text, row.within)?;
     push_off(text, row.off)?;
     push_hidden(text, row.hidden)
@@ -365,14 +389,14 @@ fn push_off(text: &mut String, off: Off) -> Result<(), AllocError>
     }
 }
 
-/// Appends whether it may stay hidden, and the end of the line.
+/// Appends whether it may stay hidden, or `-`, and the end of the line.
 #[tactic(auto, unfolding(crate::specs::Coverage::hidden_text))]
-fn push_hidden(text: &mut String, hidden: bool) -> Result<(), AllocError>
+fn push_hidden(text: &mut String, hidden: Option<bool>) -> Result<(), AllocError>
     ensures { OnOk result (string_bytes text.new ≡ string_bytes text.old ++ hidden_text hidden) }
 {
-    if hidden {
-        text.push_str(",1\n")
-    } else {
-        text.push_str(",0\n")
+    match hidden {
+        Some(true) => text.push_str(",1\n"),
+        Some(false) => text.push_str(",0\n"),
+        None => text.push_str(",-\n"),
     }
 }

@@ -6,8 +6,8 @@ ghost use Rattle.eg_laws.specs.Latent.{ReadingsApartHide, FarMissesHide, SingleM
 /// Faults that can stay hidden (docs/CONCEPT.md, "Faults"): by each accepted calibration and for each engine
 /// there are runs of every length under them in which no watch finds anything at any tick. A shut-off path
 /// that is held closed or doesn't conduct, a plate that is held and a wild monitoring module are such faults;
-/// and so is a lapse whose misses lie `eg_answer::miss_spacing` ticks apart or more. It does nothing when it
-/// runs.
+/// and so is a lapse whose misses lie `eg_answer::miss_spacing` ticks apart or more, if the calibration has
+/// such a number. It does nothing when it runs.
 pub fn faults_stay_hidden()
     ensures readings_apart { (engine : EngineKind) → ReadingsApartHide (bench_of engine) }
     ensures lapses { (engine : EngineKind) → FarMissesHide (bench_of engine) }

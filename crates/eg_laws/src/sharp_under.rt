@@ -7,8 +7,8 @@ ghost use Rattle.eg_laws.specs.SharpUnder.{RecordsCutSharplyUnder};
 /// level 2's watch of the torque is as sharp as without a fault (docs/CONCEPT.md, "Why the unit reacts"), by
 /// the rows of each drive span of the record of a run on the bench, for each engine: at each tick, before the
 /// onset and after it, `torque` is found exactly if the full-efficiency excess is first confirmed, neither
-/// `pedal` nor another watch that trips is found, and the latch of path 1 is open exactly if that excess was
-/// confirmed at an earlier tick of the span. It does nothing when it runs.
+/// `pedal` nor another watch that trips is found, and path 1 conducts as the fault lets it, by a latch that
+/// is open exactly if that excess was confirmed at an earlier tick of the span. It does nothing when it runs.
 pub fn records_cut_sharply_under()
     ensures { (engine : EngineKind) → RecordsCutSharplyUnder (bench_of engine) }
 {}

@@ -1,0 +1,233 @@
+-- What the numbers of `coverage` mean: what holds of each class of fault.
+use Rattle.std.proofs.Common.{◌≡◌, refl, sym, ap, ℕ, Bool, true, false, ◌||◌, Some}
+use Rattle.std.proofs.lemmas.Bool.{or_left, or_right, true≢false}
+use Rattle.eg_answer.specs.Times.{TimeParts}
+use Rattle.eg_values.specs.Calibration.{CalibrationParts}
+use Rattle.eg_plant.specs.declared.engine_kind.EngineKind.TheVariants as kind
+use Rattle.eg_fault.specs.Effects.{Effects, no_effects}
+use Rattle.eg_fault.specs.Faults.{effects_of, is_lapse}
+use Rattle.eg_fault.specs.Running.{may_change_levels}
+use Rattle.eg_fault.specs.Names.{name_of, class_index}
+use Rattle.eg_fault.specs.declared.class.Class.{Class}
+use Rattle.eg_fault.specs.declared.class.Class.TheVariants as class
+use Rattle.eg_fault.specs.declared.class.Fault.{Fault}
+use Rattle.eg_fault.specs.declared.class_name.ClassName.TheVariants as name
+use Rattle.eg_fault.specs.declared.paths.TheConstants.{PATH_1, PATH_2}
+use Rattle.eg_model.specs.Lapses.{IsLapse}
+use Rattle.eg_model.specs.Reaction.{reacts_at_once, spoils_answers}
+use Rattle.eg_model.proofs.EngineLaws.{keeps_of, shows_one_load_of}
+use Rattle.eg_laws.specs.Findings.{is_flip}
+use Rattle.eg_laws.specs.Coverage.{sends_outside, holds_closed}
+use Rattle.eg_laws.specs.Latent.{always_hides, hides_at_rest}
+use Rattle.eg_laws.proofs.LatentRuns.{low_loads_of}
+use Rattle.eg_laws.proofs.LatentRest.{rests_of, diesel_is_calm}
+use Rattle.eg_laws.proofs.LatentAtRest.{rest_hides}
+use Rattle.eg_laws.proofs.LatentLaws.{readings_apart_hide, far_misses_hide}
+use Rattle.eg_laws.proofs.LatentOffsets.{small_offsets_hide}
+use Rattle.eg_laws.proofs.LatentMoves.{moves_in_window_hide}
+use Rattle.eg_desk.specs.Means.{AllHide, AllHideAtRest, SmallOffsetsStay, MovesStay, FarMissesStay, on_contact, is_of}
+use Rattle.eg_desk.proofs.MeansRows.{Obeys, Runs}
+
+-- ---- what holds of a class ----
+
+by_latches : (x : Effects) → x.conducts ≡ no_effects.conducts → x.opens ≡ false → Obeys x
+unfolding no_effects
+by_latches x same orders = record {
+  open_1 = ap (λ c. c PATH_1 true) same;
+  open_2 = ap (λ c. c PATH_2 true) same;
+  shut_2 = ap (λ c. c PATH_2 false) same;
+  orders = orders;
+}
+
+-- a class under which the reaction is always at once
+pub record IsAtOnce (class : Class) : Type 0 where
+  pub listed : is_lapse class ≡ false
+  pub soon : (onset tick : ℕ) → reacts_at_once class onset tick ≡ true
+
+pub record MayRead (class : Class) : Type 0 where
+  pub spares : may_change_levels class ≡ false
+  pub at_once : IsAtOnce class
+  pub obeys : (k : ℕ) → Obeys (effects_of class k)
+  pub runs : (k : ℕ) → Runs (effects_of class k)
+
+may_read : (class : Class) → (is_of name.Script class || is_of name.Offset class) ≡ true → MayRead class
+unfolding is_of name_of class_index may_change_levels is_lapse reacts_at_once effects_of no_effects
+may_read (class.Script track values) e = record {
+  spares = refl;
+  at_once = record { listed = refl; soon = λ onset tick. refl };
+  obeys = λ k. by_latches _ refl refl;
+  runs = λ k. refl;
+}
+may_read (class.Offset track add) e = record {
+  spares = refl;
+  at_once = record { listed = refl; soon = λ onset tick. refl };
+  obeys = λ k. by_latches _ refl refl;
+  runs = λ k. refl;
+}
+may_read _ e = absurd (true≢false (sym e))
+
+pub by_script : (class : Class) → is_of name.Script class ≡ true → MayRead class
+by_script class e = may_read class (or_left _ _ e)
+
+pub by_offset : (class : Class) → is_of name.Offset class ≡ true → MayRead class
+by_offset class e = may_read class (or_right (is_of name.Script class) _ e)
+
+pub spoils_obeys : (class : Class) → spoils_answers class ≡ true → (k : ℕ) → Obeys (effects_of class k)
+unfolding spoils_answers effects_of no_effects
+spoils_obeys (class.Skip index) e k = by_latches _ refl refl
+spoils_obeys (class.Disturb index mask) e k = by_latches _ refl refl
+spoils_obeys class.Halt e k = by_latches _ refl refl
+spoils_obeys _ e k = absurd (true≢false (sym e))
+
+pub moved_obeys : (times : TimeParts) (class : Class) → sends_outside times class ≡ true → (k : ℕ) → Obeys (effects_of class k)
+unfolding sends_outside effects_of no_effects
+moved_obeys times (class.Timing offset) e k = by_latches _ refl refl
+moved_obeys times _ e k = absurd (true≢false (sym e))
+
+pub record MayFlip (class : Class) : Type 0 where
+  pub is : is_flip class ≡ true
+  pub obeys : (k : ℕ) → Obeys (effects_of class k)
+  pub runs : (k : ℕ) → Runs (effects_of class k)
+
+pub may_flip : (class : Class) → is_of name.Flip class ≡ true → MayFlip class
+unfolding is_of name_of class_index is_flip effects_of no_effects
+may_flip (class.Flip word mask) e = record { is = refl; obeys = λ k. by_latches _ refl refl; runs = λ k. refl }
+may_flip _ e = absurd (true≢false (sym e))
+
+pub bus_at_once : (class : Class) → is_of name.Bus class ≡ true → IsAtOnce class
+unfolding is_of name_of class_index is_lapse reacts_at_once
+bus_at_once (class.Bus mask) e = record { listed = refl; soon = λ onset tick. refl }
+bus_at_once _ e = absurd (true≢false (sym e))
+
+pub plate_at_once : (class : Class) → is_of name.Plate class ≡ true → IsAtOnce class
+unfolding is_of name_of class_index is_lapse reacts_at_once
+plate_at_once (class.Plate at) e = record { listed = refl; soon = λ onset tick. refl }
+plate_at_once _ e = absurd (true≢false (sym e))
+
+pub timing_at_once : (class : Class) → is_of name.Timing class ≡ true → IsAtOnce class
+unfolding is_of name_of class_index is_lapse reacts_at_once
+timing_at_once (class.Timing offset) e = record { listed = refl; soon = λ onset tick. refl }
+timing_at_once _ e = absurd (true≢false (sym e))
+
+pub wild_at_once : (class : Class) → is_of name.Wild class ≡ true → IsAtOnce class
+unfolding is_of name_of class_index is_lapse reacts_at_once
+wild_at_once (class.Wild questions opens) e = record { listed = refl; soon = λ onset tick. refl }
+wild_at_once _ e = absurd (true≢false (sym e))
+
+pub path_2_at_once : (class : Class) → is_of name.Path2Closed class ≡ true → IsAtOnce class
+unfolding is_of name_of class_index is_lapse reacts_at_once
+path_2_at_once class.Path2Closed e = record { listed = refl; soon = λ onset tick. refl }
+path_2_at_once _ e = absurd (true≢false (sym e))
+
+pub skip_spoils : (class : Class) → is_of name.Skip class ≡ true → spoils_answers class ≡ true
+unfolding is_of name_of class_index spoils_answers
+skip_spoils (class.Skip index) e = refl
+skip_spoils _ e = absurd (true≢false (sym e))
+
+pub disturb_spoils : (class : Class) → is_of name.Disturb class ≡ true → spoils_answers class ≡ true
+unfolding is_of name_of class_index spoils_answers
+disturb_spoils (class.Disturb index mask) e = refl
+disturb_spoils _ e = absurd (true≢false (sym e))
+
+pub halt_spoils : (class : Class) → is_of name.Halt class ≡ true → spoils_answers class ≡ true
+unfolding is_of name_of class_index spoils_answers
+halt_spoils class.Halt e = refl
+halt_spoils _ e = absurd (true≢false (sym e))
+
+pub path_1_listed : (class : Class) → is_of name.Path1Closed class ≡ true → is_lapse class ≡ false
+unfolding is_of name_of class_index is_lapse
+path_1_listed class.Path1Closed e = refl
+path_1_listed _ e = absurd (true≢false (sym e))
+
+pub path_1_holds : (class : Class) → is_of name.Path1Closed class ≡ true → holds_closed class ≡ true
+unfolding is_of name_of class_index holds_closed
+path_1_holds class.Path1Closed e = refl
+path_1_holds _ e = absurd (true≢false (sym e))
+
+pub path_2_holds : (class : Class) → is_of name.Path2Closed class ≡ true → holds_closed class ≡ true
+unfolding is_of name_of class_index holds_closed
+path_2_holds class.Path2Closed e = refl
+path_2_holds _ e = absurd (true≢false (sym e))
+
+pub wild_obeys : (class : Class) → is_of name.Wild class ≡ true → (k : ℕ) → (effects_of class k).conducts PATH_2 true ≡ false
+unfolding is_of name_of class_index effects_of no_effects
+wild_obeys (class.Wild questions opens) e k = refl
+wild_obeys _ e k = absurd (true≢false (sym e))
+
+pub path_in : (c : Class) → is_of name.PathOpen c ≡ true → (path : ℕ) × (c ≡ class.PathOpen path)
+unfolding is_of name_of class_index
+path_in (class.PathOpen path) e = (path, refl)
+path_in _ e = absurd (true≢false (sym e))
+
+pub plate_hides : (class : Class) → is_of name.Plate class ≡ true → always_hides class ≡ true
+unfolding is_of name_of class_index always_hides
+plate_hides (class.Plate at) e = refl
+plate_hides _ e = absurd (true≢false (sym e))
+
+pub wild_hides : (class : Class) → is_of name.Wild class ≡ true → always_hides class ≡ true
+unfolding is_of name_of class_index always_hides
+wild_hides (class.Wild questions opens) e = refl
+wild_hides _ e = absurd (true≢false (sym e))
+
+pub path_1_hides : (class : Class) → is_of name.Path1Closed class ≡ true → always_hides class ≡ true
+unfolding is_of name_of class_index always_hides
+path_1_hides class.Path1Closed e = refl
+path_1_hides _ e = absurd (true≢false (sym e))
+
+pub path_2_hides : (class : Class) → is_of name.Path2Closed class ≡ true → always_hides class ≡ true
+unfolding is_of name_of class_index always_hides
+path_2_hides class.Path2Closed e = refl
+path_2_hides _ e = absurd (true≢false (sym e))
+
+pub open_hides : (class : Class) → is_of name.PathOpen class ≡ true → always_hides class ≡ true
+unfolding is_of name_of class_index always_hides
+open_hides (class.PathOpen path) e = refl
+open_hides _ e = absurd (true≢false (sym e))
+
+pub bus_hides : (class : Class) → is_of name.Bus class ≡ true → hides_at_rest class ≡ true
+unfolding is_of name_of class_index hides_at_rest
+bus_hides (class.Bus mask) e = refl
+bus_hides _ e = absurd (true≢false (sym e))
+
+pub contact_hides : (class : Class) → on_contact class ≡ true → hides_at_rest class ≡ true
+unfolding on_contact hides_at_rest
+contact_hides (class.Script track values) e = e
+contact_hides (class.Offset track add) e = or_left _ _ e
+contact_hides _ e = absurd (true≢false (sym e))
+
+pub all_hide : (cal : CalibrationParts) (meant : Class → Bool) → ((c : Class) → meant c ≡ true → always_hides c ≡ true) →
+    AllHide cal meant
+all_hide cal meant hides accepted f valid one engine =
+    readings_apart_hide (keeps_of engine) (shows_one_load_of engine) (low_loads_of engine) cal accepted f valid
+    (hides f.class one)
+
+pub all_hide_at_rest : (cal : CalibrationParts) (meant : Class → Bool) → ((c : Class) → meant c ≡ true → hides_at_rest c ≡ true) →
+    AllHideAtRest cal meant
+all_hide_at_rest cal meant hides accepted f valid one =
+    rest_hides (keeps_of kind.Diesel) (shows_one_load_of kind.Diesel) (low_loads_of kind.Diesel)
+    (rests_of kind.Diesel) cal accepted
+    (diesel_is_calm cal) f valid (hides f.class one)
+
+pub small_offsets_stay : SmallOffsetsStay
+small_offsets_stay engine = small_offsets_hide (keeps_of engine) (shows_one_load_of engine) (low_loads_of engine)
+
+pub moves_stay : MovesStay
+moves_stay engine = moves_in_window_hide (keeps_of engine) (shows_one_load_of engine) (low_loads_of engine)
+
+pub far_misses_stay : FarMissesStay
+far_misses_stay engine = far_misses_hide (keeps_of engine) (shows_one_load_of engine) (low_loads_of engine)
+
+pub lapse_of : (f : Fault) → is_of name.Lapse f.class ≡ true → IsLapse (Some f)
+unfolding is_of name_of class_index
+lapse_of f e = go f.class refl e
+  where
+    go : (c : Class) → f.class ≡ c → is_of name.Lapse c ≡ true → IsLapse (Some f)
+    go (class.Lapse after every) same one =
+        record {
+          onset = f.onset;
+          after = after;
+          every = every;
+          is = ap (λ c. Some
+              (record { onset = f.onset; class = c })) same;
+        }
+    go _ same one = absurd (true≢false (sym one))
