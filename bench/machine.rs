@@ -1,41 +1,40 @@
-// Level 1's machine as plain Rust, written to be fast: an array of words, one match on the operation, fields that
-// are read where they are needed, `pc` in a local, and the guard as comparisons. It is the machine of both
-// plain_machine.rs and plain_unit.rs.
+//! Level 1's machine once more, for the programs that work out everything anew: it decodes at each step, and reads the
+//! fields of an instruction where they are needed. Its steps are written apart from those of the plain program, of
+//! which it has all else (plain/level1.rs): by way of the decoded instructions there a step takes a quarter more.
 
-#[derive(Clone, Copy, PartialEq)]
-pub enum Trap {
-    Fetch,
-    Load,
-    Store,
-    Illegal,
-}
+#[allow(dead_code)]
+#[path = "../plain/level1.rs"]
+pub mod kept;
 
-#[derive(Clone, Copy, PartialEq)]
-pub enum State {
-    Running,
-    Waiting,
-    Trapped(Trap),
-}
+pub use kept::{State, Trap, Words};
+use kept::{CODE, load, store};
 
 pub struct Machine {
     pub r: [u16; 8],
-    pub pc: u16,
+    pub pc: usize,
     pub state: State,
 }
 
-pub type Words = [u16; 4096];
+impl Machine {
+    /// A machine before its first step. Its code is that in the words.
+    pub fn new(_: &[u16]) -> Machine {
+        Machine { r: [0; 8], pc: 0, state: State::Running }
+    }
 
-#[inline(always)]
-pub fn may_load(at: u16) -> bool {
-    at < 2058 || (2064..=2065).contains(&at) || (2080..=2084).contains(&at)
+    /// Begins the code from the start, as when it was new.
+    pub fn restart(&mut self) {
+        *self = Machine::new(&[]);
+    }
+
+    /// Wakes a machine that waits, and does at most so many instructions.
+    #[inline(never)]
+    pub fn slice(&mut self, words: &mut Words, budget: u16) {
+        let Machine { r, pc, state } = self;
+        kept::slice(state, pc, budget, |pc| Some(step(r, words, *words[..CODE].get(pc)?, pc + 1)));
+    }
 }
 
-#[inline(always)]
-fn may_store(at: u16) -> bool {
-    (1024..2048).contains(&at) || (2064..=2065).contains(&at)
-}
-
-// The fields of an instruction, taken where they are needed.
+// The fields of an instruction.
 #[inline(always)]
 fn a(word: u16) -> usize {
     usize::from(word >> 9 & 7)
@@ -51,55 +50,18 @@ fn c(word: u16) -> usize {
     usize::from(word >> 3 & 7)
 }
 
+/// An address so far past another one.
 #[inline(always)]
-fn n9(word: u16) -> u16 {
-    word & 511
-}
-
-#[inline(always)]
-fn s9(word: u16) -> i16 {
-    ((word << 7) as i16) >> 7
-}
-
-#[inline(always)]
-fn s6(word: u16) -> i16 {
-    ((word << 10) as i16) >> 10
-}
-
-impl Machine {
-    /// Wakes a machine that waits, and does at most so many instructions.
-    #[inline(never)]
-    pub fn slice(&mut self, words: &mut Words, budget: u16) {
-        if let State::Trapped(_) = self.state {
-            return;
-        }
-        self.state = State::Running;
-        let mut pc = self.pc;
-        for _ in 0..budget {
-            if pc >= 1024 {
-                self.state = State::Trapped(Trap::Fetch);
-                break;
-            }
-            let word = words[usize::from(pc)];
-            match step(&mut self.r, words, word, pc + 1) {
-                Ok(next) => pc = next,
-                Err(state) => {
-                    pc += u16::from(state == State::Waiting);
-                    self.state = state;
-                    break;
-                }
-            }
-        }
-        self.pc = pc;
-    }
+fn past(at: usize, distance: i16) -> usize {
+    (at as u16).wrapping_add_signed(distance).into()
 }
 
 /// One instruction: where the next one stands, or the state that ends the slice.
 #[inline(always)]
-fn step(r: &mut [u16; 8], words: &mut Words, word: u16, next: u16) -> Result<u16, State> {
+fn step(r: &mut [u16; 8], words: &mut Words, word: u16, next: usize) -> Result<usize, State> {
     match word >> 12 {
         0 => {}
-        1 => r[a(word)] = n9(word),
+        1 => r[a(word)] = word & 511,
         2 => r[a(word)] = (r[a(word)] << 7).wrapping_add(word & 127),
         3 => r[a(word)] = r[b(word)],
         4 => r[a(word)] = r[b(word)].wrapping_add(r[c(word)]),
@@ -111,26 +73,14 @@ fn step(r: &mut [u16; 8], words: &mut Words, word: u16, next: u16) -> Result<u16
         10 => r[a(word)] = r[b(word)].wrapping_mul(r[c(word)]),
         11 => r[a(word)] = load(words, r[b(word)].wrapping_add(word & 63))?,
         12 => store(words, r[b(word)].wrapping_add(word & 63), r[a(word)])?,
-        13 if r[a(word)] == 0 => return Ok(next.wrapping_add_signed(s9(word))),
-        14 if r[a(word)] < r[b(word)] => return Ok(next.wrapping_add_signed(s6(word))),
+        13 if r[a(word)] == 0 => return Ok(past(next, (word << 7) as i16 >> 7)),
+        14 if r[a(word)] < r[b(word)] => return Ok(past(next, (word << 10) as i16 >> 10)),
         13 | 14 => {}
-        _ if n9(word) == 0 => return Err(State::Waiting),
-        _ if n9(word) == 1 => return Ok(r[a(word)]),
-        _ => return Err(State::Trapped(Trap::Illegal)),
+        _ => match word & 511 {
+            0 => return Err(State::Waiting),
+            1 => return Ok(r[a(word)].into()),
+            _ => return Err(State::Trapped(Trap::Illegal)),
+        },
     }
     Ok(next)
-}
-
-#[inline(always)]
-fn load(words: &Words, at: u16) -> Result<u16, State> {
-    if may_load(at) { Ok(words[usize::from(at)]) } else { Err(State::Trapped(Trap::Load)) }
-}
-
-#[inline(always)]
-fn store(words: &mut Words, at: u16, word: u16) -> Result<(), State> {
-    if !may_store(at) {
-        return Err(State::Trapped(Trap::Store));
-    }
-    words[usize::from(at)] = word;
-    Ok(())
 }

@@ -1,10 +1,12 @@
-// Slices of level 1's machine as plain Rust (machine.rs). It is measured beside the proved one by `bench/run`, and
+// Slices of level 1's machine as plain Rust (machine.rs), which is measured beside the proved one by `bench/run`. It
 // prints the same registers, state and sum over memory.
 // Usage: plain_machine SLICES, each of 1,000 steps of a busy image.
 
+#[allow(dead_code)]
 mod machine;
 
-use machine::{Machine, State, may_load};
+use machine::kept::may_load;
+use machine::{Machine, State};
 
 /// A loop of 15 instructions that loads, stores, computes and jumps.
 const IMAGE: [u16; 20] = [
@@ -16,7 +18,7 @@ fn main() {
     let slices: u32 = std::env::args().nth(1).and_then(|n| n.parse().ok()).expect("SLICES");
     let mut memory = [0u16; 4096];
     memory[..IMAGE.len()].copy_from_slice(&IMAGE);
-    let mut machine = Machine { r: [0; 8], pc: 0, state: State::Running };
+    let mut machine = Machine::new(&IMAGE);
     for _ in 0..slices {
         machine.slice(&mut memory, 1000);
     }

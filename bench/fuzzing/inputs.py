@@ -11,14 +11,16 @@ from fuzzing.line_files import (
     shown_measurement, shown_records, source)
 
 
+# A line of a measurement, and one of a partner's answers.
+READ, ANSWERED = b"0,1000,0,1000,40,40,800,800,0,65535\n", b"0,800,0,0,0,0,40,40,0\n"
+
+
 def much(chance):
     """4 MiB of one thing, or about that."""
     unit = chance.choice([
         b"a", b"0", b"[", b"]", b"{a=", b"a.", b'"', b"'", b"\\", b"#", b"\n", b"\r", b"\r\n", b",", b" ", b"=",
-        b"\xff", b"\0", b"f000\n", b"nop\n", b";\n", b"a:\n", b"0,800,0,401\n",
-        b"0,1000,0,1000,40,40,800,800,0,65535\n",
-        b"0,800,0,0,0,0,40,40,0\n",
-        b"0,800,0\n", b"[[run]]\n", b"[a]\n", b"x=1\n", b"\xef\xbb\xbf", b"[[[", b'"a",', b'""', b"[1],", b"{},"])
+        b"\xff", b"\0", b"f000\n", b"nop\n", b";\n", b"a:\n", b"0,800,0,401\n", READ, ANSWERED, b"0,800,0\n",
+        b"[[run]]\n", b"[a]\n", b"x=1\n", b"\xef\xbb\xbf", b"[[[", b'"a",', b'""', b"[1],", b"{},"])
     front = chance.choice([
         b"", b"x = ", b"x = [", b'x = "', b"x = '", b"# ", b'x = """', b"x = '''", b"pedal,speed,raise,torque\n",
         b"pedal,speed,raise\n", b'"', b"version = 1\n", b"[", ",".join(TRACKS).encode() + b"\n",
@@ -40,13 +42,12 @@ def large(chance):
     files = {"i.hex": b"f000\nd1fe\n", "t.csv": b"pedal,speed,raise\n0,800,0\n"}
     kind = chance.randint(0, 7)
     if kind == 7:
-        answers = "0,800,0,0,0,0,40,40,0\n" * (20000 + count)
-        files[GIVEN] = (answers + bad).encode()
+        files[GIVEN] = ANSWERED * (20000 + count) + bad.encode()
         return ["couple", "c.toml", "a"], {**files, "c.toml": plain_run("a", "t.csv").encode()}
     if kind == 6:
         # More ticks than 16 bits count.
-        rows = b"0,1000,0,1000,40,40,800,800,0,65535\n" * (65535 + count)
-        return [chance.choice(MEASURING)], {GIVEN: ",".join(TRACKS).encode() + b"\n" + rows + bad.encode()}
+        rows = READ * (65535 + count) + bad.encode()
+        return [chance.choice(MEASURING)], {GIVEN: ",".join(TRACKS).encode() + b"\n" + rows}
     if kind == 0:
         ends = chance.choice(["\n", "\r\n"])
         rows = [f"{chance.randint(0, 1000)},800,0,{chance.randint(0, 65535)}{ends}"] * (20000 + count)
@@ -80,6 +81,16 @@ MEASURING = ["replay", "signals"]
 
 COUPLING = "couple"
 GIVEN = "m.csv"
+
+# The commands that read files: how often each is made beside the others, and the kinds of files of which one is mostly
+# broken, each as often as it stands there.
+OF_CAMPAIGN = ["campaign", "campaign", "campaign", "trace", "image"]
+COMMANDS = {
+    "check": (2, ["check"]), "bound": (1, []), "limits": (2, []), "coverage": (1, []), "answers": (2, []), "run": (3, OF_CAMPAIGN),
+    "table": (2, OF_CAMPAIGN), "margins": (1, OF_CAMPAIGN), "record": (1, OF_CAMPAIGN), "sweep": (1, OF_CAMPAIGN),
+    "asm": (2, ["source"]), "dis": (1, ["image"]), **{name: (1, ["measurement"]) for name in MEASURING},
+    COUPLING: (2, ["campaign", "image", "trace", "trace", *["answers"] * 4]),
+}
 
 with open(f"{TOP}/examples/reference.toml", "rb") as file_of_example:
     REFERENCE = file_of_example.read()
@@ -163,14 +174,8 @@ def made_input(seed, count):
     if chance.random() < 0.0006:
         words, files = large(chance)
         return [word.encode() for word in words], files
-    command = chance.choice(["check", "check", "bound", "limits", "limits", "coverage", "answers", "answers", "run", "run", "run",
-                             "table", "table", "margins", "record", "sweep", "asm", "asm", "dis", *MEASURING,
-                             COUPLING, COUPLING])
-    takes = {"check": ["check"], "bound": [], "limits": [], "coverage": [], "answers": [], "asm": ["source"], "dis": ["image"],
-             "replay": ["measurement"], "signals": ["measurement"],
-             COUPLING: ["campaign", "image", "trace", "trace", *["answers"] * 4]}.get(
-        command, ["campaign", "campaign", "campaign", "trace", "image"])
-    kinds = set()
+    command = chance.choice([name for name, (times, _) in COMMANDS.items() for _ in range(times)])
+    takes, kinds = COMMANDS[command][1], set()
     of_calibration = command in ("bound", "limits", "coverage", "answers")
     with_calibration = of_calibration or command not in ("asm", "dis") and chance.random() < (
         0.5 if command in MEASURING else 0.3 if command == COUPLING else 0.1)
@@ -213,8 +218,6 @@ def other_words(chance, words):
     words = list(words)
     place = chance.randrange(len(words))
     words[place:place + chance.randint(0, 2)] = chance.sample(
-        ["", "-", "--cal", "my.toml", "in.csv", "c.toml", "s.asm", "i.hex", "check", "run", "table", "margins", "record",
-         "bound", "sweep", "limits", "coverage", "answers", "asm", "dis", "replay", "signals", "couple", "r0", "soak", "1", b"\xff",
-         "é"],
+        ["", "-", "--cal", "my.toml", "in.csv", "c.toml", "s.asm", "i.hex", *COMMANDS, "r0", "soak", "1", b"\xff", "é"],
         chance.randint(0, 2))
     return words

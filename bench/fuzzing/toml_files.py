@@ -19,10 +19,15 @@ def escaped(chance, letter):
     return chance.choice(forms)
 
 
+def is_plain(value):
+    """Whether a text may stand in apostrophes."""
+    return "'" not in value and all(c >= " " and c != "\x7f" for c in value)
+
+
 def text(chance, value):
     """A text in quotes of one of four kinds."""
     kind = chance.randint(0, 5)
-    plain = "'" not in value and all(c >= " " and c != "\x7f" for c in value)
+    plain = is_plain(value)
     if kind == 0 and plain:
         return f"'{value}'"
     if kind == 1 and plain:
@@ -48,7 +53,7 @@ def key(chance, name):
     bare = name and all(c.isascii() and (c.isalnum() or c in "_-") for c in name)
     if bare and chance.random() < 0.9:
         return name
-    if "'" not in name and all(c >= " " and c != "\x7f" for c in name) and chance.random() < 0.5:
+    if is_plain(name) and chance.random() < 0.5:
         return f"'{name}'"
     return '"' + "".join(escaped(chance, letter) for letter in name) + '"'
 
