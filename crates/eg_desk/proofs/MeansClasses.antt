@@ -23,9 +23,9 @@ use Rattle.eg_laws.proofs.LatentRuns.{low_loads_of}
 use Rattle.eg_laws.proofs.LatentRest.{rests_of, diesel_is_calm}
 use Rattle.eg_laws.proofs.LatentAtRest.{rest_hides}
 use Rattle.eg_laws.proofs.LatentLaws.{readings_apart_hide, far_misses_hide}
-use Rattle.eg_laws.proofs.LatentOffsets.{small_offsets_hide}
+use Rattle.eg_laws.proofs.LatentOffsets.{small_offsets_hide, small_scripts_hide}
 use Rattle.eg_laws.proofs.LatentMoves.{moves_in_window_hide}
-use Rattle.eg_desk.specs.Means.{AllHide, AllHideAtRest, SmallOffsetsStay, MovesStay, FarMissesStay, on_contact, is_of}
+use Rattle.eg_desk.specs.Means.{AllHide, AllHideAtRest, SmallOffsetsStay, SmallScriptsStay, MovesStay, FarMissesStay, on_contact, is_of}
 use Rattle.eg_desk.proofs.MeansRows.{Obeys, Runs}
 
 -- ---- what holds of a class ----
@@ -210,6 +210,9 @@ all_hide_at_rest cal meant hides accepted f valid one =
 
 pub small_offsets_stay : SmallOffsetsStay
 small_offsets_stay engine = small_offsets_hide (keeps_of engine) (shows_one_load_of engine) (low_loads_of engine)
+
+pub small_scripts_stay : SmallScriptsStay
+small_scripts_stay engine = small_scripts_hide (keeps_of engine) (shows_one_load_of engine) (low_loads_of engine)
 
 pub moves_stay : MovesStay
 moves_stay engine = moves_in_window_hide (keeps_of engine) (shows_one_load_of engine) (low_loads_of engine)

@@ -43,9 +43,9 @@ use Rattle.eg_desk.specs.declared.coverage.CoverageCase.TheVariants as case
 use Rattle.eg_desk.specs.declared.coverage.CoverageTicks.{CoverageTicks}
 use Rattle.eg_desk.specs.declared.coverage.Off.TheVariants.{After, Confirmed}
 use Rattle.eg_desk.specs.Coverage.{AreTicks, found, unfound, lapse_off, lapse_hidden, numbers_of}
-use Rattle.eg_desk.specs.Means.{SmallOffsetsStay, MovesStay, on_contact, FindsFlip, FindsClosed, ReactsIn, ExcessIsBelow, RowMeans, MeansPedal, MeansApart, MeansUnfound, MeansSpoiled, MeansTested, MeansLapse, MeansSpaced, NumbersMean, is_of, IsOffFrom, FindsAnswersWithin, FindsApart, CutsApart, CutsOrdered}
+use Rattle.eg_desk.specs.Means.{SmallOffsetsStay, SmallScriptsStay, MovesStay, on_contact, FindsFlip, FindsClosed, ReactsIn, ExcessIsBelow, RowMeans, MeansPedal, MeansApart, MeansUnfound, MeansSpoiled, MeansTested, MeansLapse, MeansSpaced, NumbersMean, is_of, IsOffFrom, FindsAnswersWithin, FindsApart, CutsApart, CutsOrdered}
 use Rattle.eg_desk.proofs.MeansRows.{at_row, all_by, any_append, IsBoth, both_paths, off_by_1, off_by_2, Obeys, Runs, obeys_plain, runs_plain, off_after_trip, answers_within, off_within, cuts, mirror_trips, cuts_apart, IsPlaced, placed, react_next}
-use Rattle.eg_desk.proofs.MeansClasses.{IsAtOnce, MayRead, by_script, by_offset, spoils_obeys, moved_obeys, MayFlip, may_flip, bus_at_once, plate_at_once, timing_at_once, wild_at_once, path_2_at_once, skip_spoils, disturb_spoils, halt_spoils, path_1_listed, path_1_holds, path_2_holds, wild_obeys, path_in, plate_hides, wild_hides, path_1_hides, path_2_hides, open_hides, bus_hides, contact_hides, all_hide, all_hide_at_rest, small_offsets_stay, moves_stay, far_misses_stay, lapse_of}
+use Rattle.eg_desk.proofs.MeansClasses.{IsAtOnce, MayRead, by_script, by_offset, spoils_obeys, moved_obeys, MayFlip, may_flip, bus_at_once, plate_at_once, timing_at_once, wild_at_once, path_2_at_once, skip_spoils, disturb_spoils, halt_spoils, path_1_listed, path_1_holds, path_2_holds, wild_obeys, path_in, plate_hides, wild_hides, path_1_hides, path_2_hides, open_hides, bus_hides, contact_hides, all_hide, all_hide_at_rest, small_offsets_stay, small_scripts_stay, moves_stay, far_misses_stay, lapse_of}
 
 -- ---- each run ----
 
@@ -386,7 +386,8 @@ module _ (cal : CalibrationParts) (ticks : CoverageTicks) (are : AreTicks cal ti
   means case.ScriptPlate = means_apart (is_of name.Script) by_script Plate (unfold cuts in refl)
   means case.ScriptLoad = means_apart (is_of name.Script) by_script Load (unfold cuts in refl)
   means case.ScriptSpeed = means_apart (is_of name.Script) by_script Speed (unfold cuts in refl)
-  means case.ScriptWithin = means_at_once (is_of name.Script) (Unit {0}) tt (λ class e. (by_script class e).at_once)
+  means case.ScriptWithin = means_at_once (is_of name.Script) SmallScriptsStay small_scripts_stay (λ class e.
+      (by_script class e).at_once)
   means case.ScriptContact = means_at_once _ _ (all_hide_at_rest cal _ (λ class e. contact_hides class (and_parts
       (is_of name.Script class) _ e).1))
       (λ class e. (by_script class (and_parts _ (on_contact class) e).0).at_once)

@@ -28,7 +28,7 @@ use Rattle.eg_laws.specs.Availability.{has_tripped}
 use Rattle.eg_laws.specs.PairsFound.{Pair, disagrees_at, has_found}
 use Rattle.eg_laws.specs.PairsFound.{Pedal as pedal_pair, Plate as plate_pair, Load as load_pair, Speed as speed_pair}
 use Rattle.eg_laws.specs.Coverage.{sends_outside, ClosedAreFound}
-use Rattle.eg_laws.specs.Latent.{CanStayHidden, SmallOffsetsHide, MovesInWindowHide, FarMissesHide}
+use Rattle.eg_laws.specs.Latent.{CanStayHidden, SmallOffsetsHide, SmallScriptsHide, MovesInWindowHide, FarMissesHide}
 use Rattle.eg_desk.specs.declared.coverage.CoverageCase.{CoverageCase}
 use Rattle.eg_desk.specs.declared.coverage.CoverageCase.TheVariants as case
 use Rattle.eg_desk.specs.declared.coverage.CoverageRow.{CoverageRow}
@@ -148,10 +148,14 @@ AllHideAtRest cal meant =
     IsAccepted cal → (fault : Fault) → IsValid fault → meant fault.class ≡ true →
     CanStayHidden diesel cal fault
 
--- offsets within the tolerance of a pair stay hidden; and so do send ticks that are moved within the window,
--- and lapses whose misses lie as far apart as `spacing` of `limits` says
+-- offsets within the tolerance of a pair stay hidden; so do scripts within that of the pedal or the speed,
+-- where these stand still; and so do send ticks that are moved within the window, and lapses whose misses lie
+-- as far apart as `spacing` of `limits` says
 abbrev pub SmallOffsetsStay : Type 0
 SmallOffsetsStay = (engine : EngineKind) → SmallOffsetsHide (bench_of engine)
+
+abbrev pub SmallScriptsStay : Type 0
+SmallScriptsStay = (engine : EngineKind) → SmallScriptsHide (bench_of engine)
 
 abbrev pub MovesStay : Type 0
 MovesStay = (engine : EngineKind) → MovesInWindowHide (bench_of engine)
@@ -219,7 +223,7 @@ RowMeans cal case.ScriptPedal row = MeansPedal cal (is_of name.Script) row
 RowMeans cal case.ScriptPlate row = MeansApart cal (is_of name.Script) plate_pair row
 RowMeans cal case.ScriptLoad row = MeansApart cal (is_of name.Script) load_pair row
 RowMeans cal case.ScriptSpeed row = MeansApart cal (is_of name.Script) speed_pair row
-RowMeans cal case.ScriptWithin row = MeansUnfound cal (is_of name.Script) (Unit {0}) row
+RowMeans cal case.ScriptWithin row = MeansUnfound cal (is_of name.Script) SmallScriptsStay row
 RowMeans cal case.ScriptContact row =
     (let meant : Class → Bool = λ class. is_of name.Script class && on_contact class in
     MeansUnfound cal meant (AllHideAtRest cal meant) row)

@@ -5,9 +5,9 @@ ghost use Rattle.eg_desk.specs.Means.{NumbersMean};
 /// of every run on the bench by that calibration, for each engine, under a valid fault of the row's class:
 /// its watch is found within `within` ticks, and the stages are off as `off` says. Where `hidden` is 1, such
 /// faults can stay hidden by each accepted calibration: all valid ones of the class, or those that the
-/// definition names; under `bus` and at a contact of the brake on the diesel engine; of a script within the
-/// tolerance nothing is said. Of lapses it is 1 exactly if the calibration has a spacing of misses. It does
-/// nothing when it runs.
+/// definition names, of a script within the tolerance those on a track of the pedal or of the speed; under
+/// `bus` and at a contact of the brake on the diesel engine. Of lapses it is 1 exactly if the calibration has
+/// a spacing of misses. It does nothing when it runs.
 pub fn numbers_mean()
     ensures { NumbersMean }
 {}

@@ -1,39 +1,21 @@
--- Small offsets can stay hidden: the pairs don't disagree by more than their tolerances, and the greatest raise permits what
--- is read of the load.
-use Rattle.std.proofs.Common.{nat_lt, ◌≡◌, ◌∙◌, refl, sym, ap, subst, ℕ, ℤ, pos, negsuc, ◌+◌, ◌-◌, ◌/◌, ◌≤◌, Bool, true, false, List, [], ◌∷◌, arith, inl, inr, ◌⊎◌, min, max}
-use Rattle.std.specs.Prelude.{if◌then◌else◌, slice_index, ◌==◌}
-use Rattle.std.proofs.lemmas.Bool.{cases_lt, le-ltb, and_right, ne_eqb, eqb-true}
-use Rattle.eg_num.specs.Arithmetic.{estimate}
+-- Small offsets and small scripts can stay hidden: one track reads near what it reads soundly.
+use Rattle.std.proofs.Common.{refl, subst, sym, ℕ, zero, suc, ℤ, pos, negsuc, ◌+◌, ◌/◌, ◌%◌, ◌≤◌, ◌<◌, List, [], ◌∷◌, All, length, arith, inl, inr, mod-lt}
+use Rattle.std.specs.Prelude.{slice_index}
+use Rattle.std.proofs.lemmas.List.Elements.{All-head, All-tail}
 use Rattle.eg_num.proofs.RisingLemmas.{estimate-rises}
-use Rattle.eg_num.specs.Interpolation.{grid_at}
-use Rattle.eg_torque.specs.Permit.{permitted}
 use Rattle.eg_plant.specs.PlantParts.{PlantParts}
-use Rattle.eg_sensor.specs.Brake.{sound_contacts, is_pressed, gated}
-use Rattle.eg_sensor.specs.declared.readings.Readings.{Readings}
-use Rattle.eg_answer.specs.Formulas.{permitted_torque, estimated_torque, disagreeing_pairs}
-use Rattle.eg_values.specs.Calibration.{CalibrationParts, IsAccepted}
-use Rattle.eg_fault.specs.Effects.{Effects, no_effects, readings_under, contacts_under}
-use Rattle.eg_fault.specs.Faults.{offset_by, effects_of, is_lapse}
+use Rattle.eg_values.specs.Calibration.{CalibrationParts}
+use Rattle.eg_fault.specs.Faults.{offset_by, in_turn, effects_of, is_lapse, IsValidClass}
 use Rattle.eg_fault.specs.Classes.{may_change_answers}
-use Rattle.eg_fault.specs.declared.class.Class.TheVariants.{Offset}
-use Rattle.eg_fault.specs.declared.class.Fault.{Fault}
-use Rattle.eg_fault.proofs.ActingLemmas.{of_class}
-use Rattle.eg_model.specs.History.{Setting, Entry, Tick}
-use Rattle.eg_model.specs.Moments.{is_braking, sensed_at, readings_at}
-use Rattle.eg_model.specs.Spans.{ticks}
+use Rattle.eg_fault.specs.declared.class.Class.TheVariants.{Offset, Script}
 use Rattle.eg_model.specs.Engines.{BenchEngine, KeepsBenchLaws, ShowsOneLoad}
-use Rattle.eg_model.specs.Bench.{entries_to}
 use Rattle.eg_model.specs.Reaction.{spoils_answers}
-use Rattle.eg_laws.specs.Latent.{distance_of, rise_of, IsSmallOffset, SmallOffsetsHide}
-use Rattle.eg_laws.proofs.SharpUnderLaws.{act_plain}
-use Rattle.eg_laws.proofs.LatentTicks.{GivesNothing, GiveNothing}
-use Rattle.eg_laws.proofs.LatentRuns.{HasLowLoads, Comes, still_run, follow_ticks, each_tick, come_to, hidden_run}
-use Rattle.eg_laws.proofs.LatentLaws.{loud, loud_within, estimate-most, gives_alike, SparesAll, answers_of, answers_spared}
+use Rattle.eg_laws.specs.Latent.{distance_of, rise_of, IsSmallOffset, SmallOffsetsHide, still_reading, IsSmallScript, SmallScriptsHide}
+use Rattle.eg_laws.proofs.LatentRuns.{HasLowLoads}
+use Rattle.eg_laws.proofs.LatentLaws.{SparesAll}
+use Rattle.eg_laws.proofs.LatentNear.{apart, ReadsNear, gives_moved, near_hides}
 
--- ---- how far apart readings are ----
-
-abbrev apart : ℕ → ℕ → ℕ
-apart a b = (a - b) + (b - a)
+-- ---- an offset ----
 
 near : (add : ℤ) (v : ℕ) → v ≤ 8000 → apart (offset_by add v) v ≤ distance_of add
 unfolding offset_by distance_of
@@ -45,189 +27,62 @@ unfolding offset_by rise_of
 raised (pos more) v = omega arith
 raised (negsuc less) v = omega arith
 
-module _ (track : ℕ) (add : ℤ) where
-  -- what the tracks read
-  abbrev reads_on : ℕ → ℕ → ℕ
-  reads_on i v = if i == track then offset_by add v else v
+offset_near : (cal : CalibrationParts) (track : ℕ) (add : ℤ) → IsSmallOffset cal track add → ReadsNear cal track (offset_by add)
+offset_near cal track add small = record {
+  paired = small.paired;
+  small = λ v l still. let moved = near add v l in let most = small.small in omega (arith, moved, most);
+  load = λ v l of_load. (let rises = estimate-rises cal.rules.kt (offset_by add v) (1000 + rise_of add)
+      (let most = raised add v in omega (arith, most, l)) in
+      let most = small.load of_load in omega (arith, rises, most));
+}
 
-  abbrev far : ℕ → ℕ
-  far i = if i == track then distance_of add else 0
+offset_spares : (track : ℕ) (add : ℤ) → SparesAll (Offset track add)
+unfolding is_lapse may_change_answers spoils_answers
+offset_spares track add = record { listed = refl; spares = refl; spoils = refl }
 
-  near_on : (i v : ℕ) → v ≤ 8000 → apart (reads_on i v) v ≤ far i
-  near_on i v l = go (i == track)
-    where
-      go : (b : Bool) → apart (if b then offset_by add v else v) v ≤ (if b then distance_of add else 0)
-      go true = near add v l
-      go false = omega arith
+-- ---- a script ----
 
-  -- a pair is no further apart than its tracks together
-  rising : (i j v : ℕ) → v ≤ 8000 → apart (reads_on i v) (reads_on j v) ≤ far i + far j
-  rising i j v l = sums (reads_on i v) (reads_on j v) v (far i) (far j) (near_on i v l) (near_on j v l)
-    where
-      sums : (a b v m n : ℕ) → apart a v ≤ m → apart b v ≤ n → apart a b ≤ m + n
-      sums a b v m n k l = omega arith
+-- what all values of a list keep, each of them keeps in turn
+at_place : (P : ℕ → Type 0) (values : List ℕ) → All P values → (i : ℕ) → i < length values → P (slice_index values i)
+at_place P [] all i l = absurd (omega (arith, l))
+at_place P (v ∷ values) all zero l = All-head P v values all
+at_place P (v ∷ values) all (suc i) l = at_place P values (All-tail P v values all) i (omega (arith, l))
 
-  falling : (i j v : ℕ) → v ≤ 1000 → apart (reads_on i v) (1000 - reads_on j (1000 - v)) ≤ far i + far j
-  falling i j v l = sums (reads_on i v) (reads_on j (1000 - v)) v (far i) (far j) l (near_on i v (omega (arith, l)))
-      (near_on j (1000 - v) (omega (arith, l)))
-    where
-      sums : (a b v m n : ℕ) → v ≤ 1000 → apart a v ≤ m → apart b (1000 - v) ≤ n → apart a (1000 - b) ≤ m + n
-      sums a b v m n w k l = omega arith
+script_near : (cal : CalibrationParts) (track : ℕ) (values : List ℕ) (k : ℕ) → 1 ≤ length values →
+    IsSmallScript cal track values → ReadsNear cal track (λ v. in_turn values k)
+unfolding in_turn
+script_near cal track values k some small = record {
+  paired = elim small.still [ inl pedal ↦ omega (arith, pedal) | inr speed ↦ omega (arith, speed) ];
+  small = λ v l still. subst
+      (λ u. apart (slice_index values (k % length values)) u ≤ slice_index cal.rules.tolerances (track / 2))
+      (sym (still small.still))
+      (at_place (λ value. apart value (still_reading track) ≤ slice_index cal.rules.tolerances (track / 2)) values small.near
+      (k % length values) (mod-lt k some));
+  load = λ v l of_load. absurd (elim small.still [
+    | inl pedal ↦ omega (arith, pedal, of_load)
+    | inr speed ↦ omega (arith, speed, of_load)
+  ]);
+}
 
-  module _ (tolerances : List ℕ) (small : distance_of add ≤ slice_index tolerances (track / 2)) where
-    -- one track of a pair is moved at most
-    fits : (pair i j : ℕ) → i / 2 ≡ pair → j / 2 ≡ pair → (i ≡ j → ⊥) → far i + far j ≤ slice_index tolerances pair
-    fits pair i j one two other = go (i == track) (j == track) refl refl
-      where
-        place : (k : ℕ) → (k == track) ≡ true → k / 2 ≡ pair → distance_of add ≤ slice_index tolerances pair
-        place k is of_pair = subst (λ p. distance_of add ≤ slice_index tolerances p)
-            (sym (ap (λ m. m / 2) (eqb-true k track is)) ∙ of_pair) small
+script_spares : (track : ℕ) (values : List ℕ) → SparesAll (Script track values)
+unfolding is_lapse may_change_answers spoils_answers
+script_spares track values = record { listed = refl; spares = refl; spoils = refl }
 
-        go : (b c : Bool) → (i == track) ≡ b → (j == track) ≡ c →
-            (if b then distance_of add else 0) + (if c then distance_of add else 0) ≤ slice_index tolerances pair
-        go true true e f = absurd (other (eqb-true i track e ∙ sym (eqb-true j track f)))
-        go true false e f = let l = place i e one in omega (arith, l)
-        go false true e f = let l = place j f two in omega (arith, l)
-        go false false e f = omega arith
-
--- ---- a tick ----
-
-module _ (cal : CalibrationParts) (accepted : IsAccepted cal) (track : ℕ) (add : ℤ) (small : IsSmallOffset cal track add)
-    (k : ℕ) (e : Entry) (comes : Comes loud e) where
-  abbrev x : Effects
-  x = effects_of (Offset track add) k
-
-  abbrev on : ℕ → ℕ → ℕ
-  on = reads_on track add
-
-  abbrev l₁ : ℕ
-  l₁ = e.shown.load_1
-
-  -- what is read
-  abbrev reads : Readings
-  reads = record {
-    pedal = on 0 0 ∷ on 1 1000 ∷ [];
-    plate = on 2 e.shown.position ∷ on 3 (1000 - e.shown.position) ∷ [];
-    load = on 4 l₁ ∷ on 5 l₁ ∷ [];
-    speed = on 6 0 ∷ on 7 0 ∷ [];
-    raise = 10000;
-    raise_check = 55535;
-  }
-
-  contacts : is_pressed (contacts_under x (sound_contacts false)) ≡ false
-  unfolding contacts_under effects_of no_effects
-  contacts = rw (ne_eqb 8 track (λ f. omega (arith, small.paired)), ne_eqb 9 track (λ f. omega (arith, small.paired))) refl
-
-  read : readings_at cal x e ≡ reads
-  unfolding readings_at
-  read = ap (λ (b : Bool). if b then gated (sensed_at x e) else sensed_at x e) unpressed ∙ sensed
-    where
-      unpressed : is_braking cal x e.drive ≡ false
-      unpressed = unfold is_braking in and_right cal.brake _
-          (ap (λ d. is_pressed (contacts_under x (sound_contacts d.brake))) comes.drive ∙ contacts)
-
-      sensed : sensed_at x e ≡ reads
-      sensed = unfold sensed_at readings_under effects_of no_effects in rw (comes.drive, comes.one) refl
-
-  -- no pair is further apart than its tolerance
-  falling_within : (pair i j v : ℕ) → v ≤ 1000 → i / 2 ≡ pair → j / 2 ≡ pair → (i ≡ j → ⊥) →
-      nat_lt (slice_index cal.rules.tolerances pair) (apart (on i v) (1000 - on j (1000 - v))) ≡ false
-  falling_within pair i j v l one two other = le-ltb _ (apart (on i v) (1000 - on j (1000 - v))) (
-      let moved = falling track add i j v l in
-      let most = fits track add cal.rules.tolerances small.small pair i j one two other in
-      omega (arith, moved, most)
-      )
-
-  rising_within : (pair i j v : ℕ) → v ≤ 8000 → i / 2 ≡ pair → j / 2 ≡ pair → (i ≡ j → ⊥) →
-      nat_lt (slice_index cal.rules.tolerances pair) (apart (on i v) (on j v)) ≡ false
-  rising_within pair i j v l one two other = le-ltb _ (apart (on i v) (on j v)) (
-      let moved = rising track add i j v l in
-      let most = fits track add cal.rules.tolerances small.small pair i j one two other in
-      omega (arith, moved, most)
-      )
-
-  pairs_agree : disagreeing_pairs cal.rules reads ≡ 0
-  unfolding disagreeing_pairs
-  pairs_agree = rw (
-    falling_within 0 0 1 0 (omega arith) refl refl (λ f. omega arith),
-    falling_within 1 2 3 e.shown.position comes.position refl refl (λ f. omega arith),
-    rising_within 2 4 5 l₁ (let c = comes.load in omega (arith, c)) refl refl (λ f. omega arith),
-    rising_within 3 6 7 0 (omega arith) refl refl (λ f. omega arith),
-  ) refl
-
-  -- the load that is read, and its estimate
-  loads_below : (i : ℕ) → i / 2 ≡ 2 → estimate cal.rules.kt (on i l₁) ≤ 10000 + cal.rules.threshold
-  loads_below i of_load = go (i == track) refl
-    where
-      go : (b : Bool) → (i == track) ≡ b →
-          estimate cal.rules.kt (if b then offset_by add l₁ else l₁) ≤ 10000 + cal.rules.threshold
-      go true is = let rises = estimate-rises cal.rules.kt (offset_by add l₁) (1000 + rise_of add)
-          (let most = raised add l₁ in let load = comes.load in omega (arith, most, load)) in
-          let most = small.load (sym (ap (λ m. m / 2) (eqb-true i track is)) ∙ of_load) in omega (arith, rises, most)
-      go false is = let most = estimate-most cal.rules.kt l₁ (let same = accepted.together.one_kt in
-          let most = accepted.plant.kt_most in omega (arith, same, most)) comes.load in omega (arith, most)
-
-  no_excess : (pedal : ℕ) → estimated_torque cal.rules reads ≤ permitted_torque cal.rules reads pedal + cal.rules.threshold
-  unfolding estimated_torque permitted_torque permitted
-  no_excess pedal = below (on 4 l₁) (on 5 l₁)
-      (min (grid_at cal.rules.permit pedal (on 6 0)) (grid_at cal.rules.permit pedal (on 7 0)))
-      (loads_below 4 refl) (loads_below 5 refl)
-    where
-      higher : (a b : ℕ) → (max a b ≡ a) ⊎ (max a b ≡ b)
-      higher a b = elim (cases_lt a b) [ inl l ↦ inr (omega (arith, l)) | inr l ↦ inl (omega (arith, l)) ]
-
-      over : (a table threshold : ℕ) → a ≤ 10000 + threshold → a ≤ max table 10000 + threshold
-      over a table threshold l = omega arith
-
-      below : (a b table : ℕ) → estimate cal.rules.kt a ≤ 10000 + cal.rules.threshold →
-          estimate cal.rules.kt b ≤ 10000 + cal.rules.threshold →
-          estimate cal.rules.kt (max a b) ≤ max table 10000 + cal.rules.threshold
-      below a b table l m = let most : estimate cal.rules.kt (max a b) ≤ 10000 + cal.rules.threshold = elim (higher a b) [
-        | inl e ↦ subst (λ v. estimate cal.rules.kt v ≤ 10000 + cal.rules.threshold) (sym e) l
-        | inr e ↦ subst (λ v. estimate cal.rules.kt v ≤ 10000 + cal.rules.threshold) (sym e) m
-      ] in over (estimate cal.rules.kt (max a b)) table cal.rules.threshold most
-
-  pub gives_moved : GivesNothing cal (record { effects = x; entry = e })
-  gives_moved = record {
-    runs = true;
-    ran = λ i. unfold effects_of no_effects in refl;
-    unflipped = unfold effects_of no_effects in refl;
-    undisturbed = λ i. unfold effects_of no_effects in refl;
-    pairs = ap (disagreeing_pairs cal.rules) read ∙ pairs_agree;
-    torque = λ pedal. subst (λ r. estimated_torque cal.rules r ≤ permitted_torque cal.rules r pedal + cal.rules.threshold)
-        (sym read) (no_excess pedal);
-  }
+-- ---- the laws ----
 
 module _ {E : Type 0} {b : BenchEngine E} {Keeps : PlantParts → E → Type 0} (keeps : KeepsBenchLaws b Keeps)
     (once : ShowsOneLoad b)
     (low : HasLowLoads b Keeps) where
   pub small_offsets_hide : SmallOffsetsHide b
-  small_offsets_hide cal accepted onset track add valid small n =
-      hidden_run keeps once low cal accepted f valid loud loud_within refl n each
-      (answers_of s h each (follow_ticks s entries) (answers_spared s accepted f valid refl spares))
+  small_offsets_hide cal accepted onset track add valid small = near_hides keeps once low cal accepted
+      (record { onset = onset; class = Offset track add }) valid (offset_spares track add)
+      (λ k e comes. unfold effects_of in gives_moved cal accepted track (offset_by add) (offset_near cal track add small) e comes)
+
+  pub small_scripts_hide : SmallScriptsHide b
+  small_scripts_hide cal accepted onset track values valid small = near_hides keeps once low cal accepted
+      (record { onset = onset; class = Script track values }) valid (script_spares track values)
+      (λ k e comes. unfold effects_of in gives_moved cal accepted track (λ v. in_turn values k)
+      (script_near cal track values k some small) e comes)
     where
-      f : Fault
-      f = record { onset = onset; class = Offset track add }
-
-      spares : SparesAll f.class
-      spares = record {
-        listed = unfold is_lapse in refl;
-        spares = unfold may_change_answers in refl;
-        spoils = unfold spoils_answers in refl;
-      }
-
-      s : Setting
-      s = (still_run cal f loud n).setting
-
-      entries : List Entry
-      entries = entries_to b (still_run cal f loud n) n
-
-      h : List Tick
-      h = ticks s entries
-
-      each : GiveNothing cal h
-      each = each_tick (Comes loud) (GivesNothing cal) s
-          (λ e t comes. of_class (λ y. GivesNothing cal (record { effects = y; entry = e })) f
-          (gives_alike cal accepted e comes no_effects act_plain)
-          (λ k. gives_moved cal accepted track add small k e comes) t)
-          entries (come_to keeps once low cal accepted f valid loud loud_within n n (omega arith))
+      some : 1 ≤ length values
+      some = unfold IsValidClass in valid.1.1.0

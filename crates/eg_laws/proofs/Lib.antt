@@ -41,6 +41,7 @@ pub mod CoverageRecords
 pub mod LatentTicks
 pub mod LatentRuns
 pub mod LatentLaws
+pub mod LatentNear
 pub mod LatentOffsets
 pub mod LatentRest
 pub mod LatentAtRest

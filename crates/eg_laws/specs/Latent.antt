@@ -1,6 +1,6 @@
 -- Outside the headline. Which faults can stay hidden: there are runs of every length in which they act, and
 -- no watch finds anything.
-use Rattle.std.specs.Prelude.{ℤ, pos, negsuc, ◌+◌, ◌/◌, ◌≤◌, ◌<◌, slice_index, ◌==◌, ◌||◌, nat_le, min, max, ◌⊎◌, ◌≡◌, ℕ, Bool, true, false, [], ◌∷◌, All, length, Some}
+use Rattle.std.specs.Prelude.{ℤ, pos, negsuc, ◌+◌, ◌-◌, ◌/◌, ◌≤◌, ◌<◌, slice_index, ◌==◌, ◌||◌, nat_le, min, max, ◌⊎◌, ◌≡◌, ℕ, Bool, true, false, List, [], ◌∷◌, All, length, Some, if◌then◌else◌}
 use Rattle.eg_num.specs.Arithmetic.{estimate}
 use Rattle.eg_num.specs.Interpolation.{grid_at}
 use Rattle.eg_sensor.specs.declared.tracks.TheConstants.{PEDAL_1, PEDAL_2, PLATE_1, PLATE_2, PAIRED_TRACKS}
@@ -110,6 +110,30 @@ SmallOffsetsHide b =
     (cal : CalibrationParts) → IsAccepted cal → (onset track : ℕ) (add : ℤ) →
     IsValid (record { onset = onset; class = Offset track add }) → IsSmallOffset cal track add →
     CanStayHidden b cal (record { onset = onset; class = Offset track add })
+
+-- ---- scripts ----
+
+-- A track of the pedal or of the speed. Where nobody touches the pedal and the engine stands still, it reads
+-- always the same if it is sound: 1000 the second track of the pedal, which falls, and 0 each other one.
+abbrev pub IsStillTrack : ℕ → Type 0
+IsStillTrack track = (track / 2 ≡ 0) ⊎ (track / 2 ≡ 3)
+
+unfoldable pub still_reading : ℕ → ℕ
+still_reading track = if track == PEDAL_2 then 1000 else 0
+
+-- The script is on such a track, and no value of it lies further from that reading, up or down, than the
+-- pair's tolerance.
+pub record IsSmallScript (cal : CalibrationParts) (track : ℕ) (values : List ℕ) : Type 0 where
+  pub still : IsStillTrack track
+  pub near : All (λ value. (value - still_reading track) + (still_reading track - value)
+      ≤ slice_index cal.rules.tolerances (track / 2)) values
+
+-- each such script can stay hidden
+abbrev pub SmallScriptsHide : {E : Type 0} → BenchEngine E → Type 0
+SmallScriptsHide b =
+    (cal : CalibrationParts) → IsAccepted cal → (onset track : ℕ) (values : List ℕ) →
+    IsValid (record { onset = onset; class = Script track values }) → IsSmallScript cal track values →
+    CanStayHidden b cal (record { onset = onset; class = Script track values })
 
 -- ---- at rest ----
 

@@ -1,7 +1,7 @@
 // Which faults can stay hidden.
 ghost use Rattle.eg_plant.specs.declared.engine_kind.EngineKind.{EngineKind};
 ghost use Rattle.eg_model.specs.Engines.{bench_of};
-ghost use Rattle.eg_laws.specs.Latent.{ReadingsApartHide, FarMissesHide, SingleMissesHide, SmallOffsetsHide, RestHides, DieselIsCalm, MovesInWindowHide};
+ghost use Rattle.eg_laws.specs.Latent.{ReadingsApartHide, FarMissesHide, SingleMissesHide, SmallOffsetsHide, SmallScriptsHide, RestHides, DieselIsCalm, MovesInWindowHide};
 
 /// Faults that can stay hidden (docs/CONCEPT.md, "Faults"): by each accepted calibration and for each engine
 /// there are runs of every length under them in which no watch finds anything at any tick. A shut-off path
@@ -19,6 +19,13 @@ pub fn faults_stay_hidden()
 /// It does nothing when it runs.
 pub fn small_offsets_stay_hidden()
     ensures { (engine : EngineKind) → SmallOffsetsHide (bench_of engine) }
+{}
+
+/// Scripts that can stay hidden (docs/CONCEPT.md, "Faults"): those on a track of the pedal or of the speed
+/// whose values lie no further than the tolerance of its pair from what the track reads where nobody touches
+/// the pedal and the engine stands still. It does nothing when it runs.
+pub fn small_scripts_stay_hidden()
+    ensures { (engine : EngineKind) → SmallScriptsHide (bench_of engine) }
 {}
 
 /// Faults that can stay hidden where pedal, plate and raise are at 0 (docs/CONCEPT.md, "Faults"), if the

@@ -39,7 +39,7 @@ pub use findings::{records_find_in_time, records_find_sharply, records_name_what
 pub use in_words::told_numbers_are_least;
 pub use latent::{
     faults_stay_hidden, faults_stay_hidden_at_rest, moves_in_the_window_stay_hidden,
-    small_offsets_stay_hidden,
+    small_offsets_stay_hidden, small_scripts_stay_hidden,
 };
 pub use least_lapse::{lapse_bound_is_least, longest_excess_run};
 pub use least_reaction::{latest_cut_run, reaction_is_least};
