@@ -17,6 +17,23 @@ for threshold in 100 300 500; do
   awk -v threshold=$threshold -v least="$least" '($1 == "*" ? $2 : $1) == threshold {
     told = $1 == "*" ? $4 : $3; print threshold ": least limit " least (told == least ? ", as told" : ", and not " told) }' told
 done
+# Three drives and two ramps: of a small grid each limit is tried by `run` alone. From the least limit that is told on no
+# drive is cut, and by each one below it some drive is.
+cat examples/diesel.toml examples/bursts.toml >three.toml
+tools/find three.toml --cal examples/ramp.toml --tolerant 30 --thresholds 200-400/100 --ramps 50,150 --without-lapses | tee told
+for threshold in 200 300 400; do
+  for fall in 150 50; do
+    sed "s/^threshold = .*/threshold = $threshold/; s/^fall = .*/fall = $fall/" examples/ramp.toml >answered.toml
+    tools/answer answered.toml >answers
+    uncut=
+    for limit in 1 2 3 4 5 6; do
+      sed "/^.torque/,/^.pairs/s/^limit = .*/limit = $limit/" answered.toml >tried.toml
+      ./egasim run --cal tried.toml three.toml | grep 'first torque' >found || uncut="$uncut $limit"
+    done
+    sed 's/^\*/ /' told | awk -v threshold=$threshold -v fall=$fall -v uncut="$uncut" '$1 == threshold && $2 == fall {
+      print threshold ", fall " fall ": least limit " $5 " is told, and no drive is cut by" uncut }'
+  done
+done
 # With ramps, and with a file that has one. With a ramp something fits only by a word.
 find --thresholds 0,100 --ramps 0,50-150/50
 find --thresholds 0,100 --ramps 50-150/50 --without-lapses --write ramped.toml
