@@ -57,6 +57,11 @@ for words in '' --sweep-sound; do
   sed -n '/"verdict"/,/<\/ul>/{s/<[^>]*>//g;/./p}; /^<h3>.*every.*ticks\?</p; /^<p>Not swept/p' page.html
 done
 
+# How long it takes until faults are found, also after a reset, beside what `coverage` says of them.
+{ tools/study faults examples/sweep.toml late halt,skip,timing,bus,script 3 && tools/study faults examples/cycles.toml starts flip,halt,path1-closed 50; } >found.toml
+tools/report found.toml --tick 10ms >page.html
+sed -n '/<title>How long/,/<desc/s/<[^>]*>//gp; /<caption>Runs by/,/<\/tbody>/s/<[^>]*>/ /gp' page.html
+
 # A program that says a reaction above R: that is against what is proved, and no evidence. A script, which the tools
 # don't take for a program, stands in for it here.
 tools/study faults examples/sweep.toml late path1-closed 0 >one.toml

@@ -6,6 +6,7 @@ tools/study examples/study.toml study
 made
 tools/study join study
 sed -n '1p;2p;20p' study/study.csv
+cat study/matrix.csv
 mv study/study.csv study.csv
 tools/study join study >/dev/null & tools/study join study >/dev/null
 wait

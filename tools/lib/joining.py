@@ -5,7 +5,9 @@ import csv
 import itertools
 import os
 import sys
+from collections import Counter
 
+from lib.detecting import HEADS, first_of, matrix
 from lib.files import read, sum_of, sum_of_file, text_of, written
 from lib.keeping import calls_kept, files_of
 from lib.runs import lacking
@@ -15,7 +17,7 @@ from lib.units import Units, units_of
 
 
 def join(path, tick=None, folder=None):
-    """Writes study.csv of the tables that count, prints their summary, and tells which campaigns have none. A study that has
+    """Writes study.csv and matrix.csv of the tables that count, prints their summary, and tells which campaigns have none. A study that has
     all is kept in a folder, if one is named."""
     refuse_changes(path)
     units = units_of(tick, [os.path.join(path, "inputs", "calibration.toml")])
@@ -47,7 +49,7 @@ def keep_tables(kept, path, numbers):
         if not any(line.endswith(f"  {words[-1]}\n") for line in sums[:len(words) - 1]):  # else the drives stand first
             fail(f"{path} is of older tools; to keep it, write the study anew")
         kept.add(files_of(words, "".join(sums), table))
-    return kept.sealed(["MANIFEST", "study.csv"])
+    return kept.sealed(["MANIFEST", "study.csv", "matrix.csv"])
 
 
 def refuse_changes(path):
@@ -82,19 +84,26 @@ def bounds_of(path):
 
 
 def write_joined(path, numbers):
-    """Writes study.csv of these campaigns, and returns the summaries by class."""
-    classes, writer = {}, None
+    """Writes study.csv of these campaigns and matrix.csv, and returns the summaries by class."""
+    classes, firsts, writer = {}, Counter(), None
     with written(f"{path}/study.csv") as file:
         for number in numbers:
             for plan, row in rows_of(path, number):
                 if not writer:
-                    writer = csv.writer(codecs.getwriter("utf-8")(file), lineterminator="\n")
+                    writer = writer_of(file)
                     writer.writerow(["run", *COLUMNS, *list(row)[1:]])
                 writer.writerow([*plan.values(), *list(row.values())[1:]])
                 if row["class"] not in classes:
                     classes[row["class"]] = Summary()
                 classes[row["class"]].add(row)
+                firsts[row["class"], first_of(row)] += 1
+    with written(f"{path}/matrix.csv") as file:
+        writer_of(file).writerows([HEADS, *matrix(firsts)])
     return classes
+
+
+def writer_of(file):
+    return csv.writer(codecs.getwriter("utf-8")(file), lineterminator="\n")
 
 
 def rows_of(path, number):

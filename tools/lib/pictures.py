@@ -1,4 +1,4 @@
-"""The pictures of a run and of a sweep."""
+"""The pictures of a run, and bars of classes of faults."""
 
 from lib.records import corners, stretches, thinned
 from lib.svg import DARK, GRID, INK, MIDDLE, box, line, picture, shape, step_of, text, width_of
@@ -139,31 +139,58 @@ def record_picture(name, title, about, record, threshold, marks, units=Units()):
     return picture(name, WIDTH, below + 88, title, about, shapes)
 
 
-# A sweep
+# Bars of classes
+
+
+class Bars:
+    """A bar of ticks for each class, or none."""
+
+    def __init__(self, numbers, bounds, units):
+        self.numbers, self.units = numbers, units
+        self.left, self.right, self.top, self.each = 88, WIDTH - (100 if units else 46), 24, 18
+        self.highest = max([1, *bounds, *(number or 0 for number in numbers.values())])
+        self.bottom = self.top + self.each * len(numbers)
+
+    def x(self, value):
+        return self.left + (self.right - self.left) * value / self.highest
+
+    def shapes(self, axis, open_bars):
+        """All but the bounds. `open_bars` are the classes whose bars are white."""
+        values = range(0, self.highest + 1, step_of(self.highest, 8))
+        for value in values:
+            yield line([(self.x(value), self.top), (self.x(value), self.bottom)], GRID)
+            yield text(self.x(value), self.bottom + 14, value, size=10)
+        yield from below_ticks((self.left + self.right) / 2, self.bottom + 1, axis, [(value, self.x(value)) for value in values],
+                               self.units)
+        for (kind, number), y in zip(self.numbers.items(), range(self.top, self.bottom, self.each)):
+            yield text(self.left - 6, y + 13, kind, "end")
+            if number:
+                colours = ("white", INK) if kind in open_bars else ("#5f7f9f",)
+                yield box(self.left, y + 3, self.x(number) - self.left, self.each - 6, *colours)
+            yield text(WIDTH - 4, y + 13, "none" if number is None else self.units.ticks(number), "end")
+
+    def bound(self, value, top, bottom):
+        return line([(self.x(value), top), (self.x(value), bottom)], INK, "6 3", 2)
+
+    def picture(self, name, title, about, shapes):
+        return picture(name, WIDTH, self.bottom + 38 + (TIMES if self.units else 0), title, about, shapes)
 
 
 def sweep_picture(name, title, about, reactions, bound, units=Units()):
     """The greatest reaction of each class of fault, a bar each, and R as a line. For lapses, whose bar is white, R is no
     bound."""
-    left, right, top, each = 88, WIDTH - (100 if units else 46), 24, 18
-    highest = max([bound, 1, *(reaction or 0 for reaction in reactions.values())])
-    bottom = top + each * len(reactions)
+    bars = Bars(reactions, [bound], units)
+    return bars.picture(name, title, about, [
+        *bars.shapes("greatest reaction, ticks", {"lapse"}), bars.bound(bound, bars.top - 6, bars.bottom),
+        text(bars.x(bound), bars.top - 10, f"R {units.ticks(bound)}")])
 
-    def x_of(value):
-        return left + (right - left) * value / highest
 
-    shapes = []
-    values = range(0, highest + 1, step_of(highest, 8))
-    for value in values:
-        shapes += [line([(x_of(value), top), (x_of(value), bottom)], GRID), text(x_of(value), bottom + 14, value, size=10)]
-    shapes += below_ticks((left + right) / 2, bottom + 1, "greatest reaction, ticks", [(value, x_of(value)) for value in values], units)
-    for place, (kind, reaction) in enumerate(reactions.items()):
-        y = top + each * place
-        shapes.append(text(left - 6, y + 13, kind, "end"))
-        if reaction:
-            colours = ("white", INK) if kind == "lapse" else ("#5f7f9f",)
-            shapes.append(box(left, y + 3, x_of(reaction) - left, each - 6, *colours))
-        shapes.append(text(WIDTH - 4, y + 13, "none" if reaction is None else units.ticks(reaction), "end"))
-    shapes.append(line([(x_of(bound), top - 6), (x_of(bound), bottom)], INK, "6 3", 2))
-    shapes.append(text(x_of(bound), top - 10, f"R {units.ticks(bound)}"))
-    return picture(name, WIDTH, bottom + 38 + (TIMES if units else 0), title, about, shapes)
+def taken_picture(name, title, about, taken, units=Units()):
+    """The most ticks that each class of fault takes until something is found, a bar each, and a line at its own bound. The bar of
+    a class without one is white. `taken` has both numbers of each class, or None."""
+    bounds = {kind: within for kind, (_, within) in taken.items() if within is not None}
+    bars = Bars({kind: most for kind, (most, _) in taken.items()}, bounds.values(), units)
+    tops = dict(zip(taken, range(bars.top, bars.bottom, bars.each)))
+    return bars.picture(name, title, about, [
+        *bars.shapes("most ticks until something is found", taken.keys() - bounds.keys()),
+        *(bars.bound(within, tops[kind], tops[kind] + bars.each) for kind, within in bounds.items())])

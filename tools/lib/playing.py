@@ -10,6 +10,7 @@ import sys
 
 from lib.calibration import calibration_of, has_ramp, period_of, threshold_of, weight_limits_of
 from lib.covering import cover_of, missing
+from lib.detecting import spans_of, taken_by_class
 from lib.files import TOOLS, TOP, read, sum_of, text_in
 from lib.program import asked_version, printed_by, program, version_lines
 from lib.questions import answer_of
@@ -52,6 +53,7 @@ class Played:
         for name in own_files(calibration):
             self.add_sum(name, os.path.join(TOP, name))
         self.limits = dict(line.split() for line in self.call("limits").splitlines())
+        self.coverage = self.table("coverage")
         self.rows = self.table("table", campaign)
         self.margins = self.table("margins", campaign)
         text = text_in(campaign, read(campaign))
@@ -65,6 +67,7 @@ class Played:
         self.has_ramp = has_ramp(calibration)
         self.weights = weight_limits_of(calibration)
         self.records = {row["run"]: self.record(row["run"]) for row in self.rows}
+        self.taken = self.taken_until_found()
         self.blind = self.blind_for()
         groups = [(runs, not sweeps_sound and bool(set(runs) & set(self.sound))) for runs in self.groups()]
         self.not_asked = [runs[0] for runs, is_left_out in groups if is_left_out]
@@ -130,6 +133,12 @@ class Played:
     def resets(self, name):
         """The ticks at which a run's drive resets the unit."""
         return drive_of(self.runs[name]["trace"])[1]
+
+    def taken_until_found(self):
+        """How long the runs of each class of fault take until something is found."""
+        answers, test = calibration_of(self.calibration)["answers"], int(self.limits["test"])
+        spans = {name: list(spans_of(self.resets(name), len(record["on"]), test)) for name, record in self.records.items()}
+        return taken_by_class(self.rows, self.coverage, (answers["first"], answers["last"]), spans)
 
     def groups(self):
         """The names of runs that differ in their faults alone."""

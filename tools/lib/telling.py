@@ -2,12 +2,14 @@
 
 import itertools
 import re
+from collections import Counter
 
 from lib.calibration import WATCHES, torque_weights_of
 from lib.covering import ranges_said
+from lib.detecting import HEADS, first_of, matrix
 from lib.documents import blocks_of, cells_of, section_of
 from lib.pages import Html, code, inline, of_document, paragraph, section, shown, table
-from lib.pictures import record_picture, sweep_picture
+from lib.pictures import record_picture, sweep_picture, taken_picture
 from lib.playing import MOST_SWEEPS, document
 from lib.program import is_own, own_warning
 from lib.records import part_of
@@ -17,16 +19,21 @@ from lib.units import Units
 from lib.verdicts import first_ramp_said, is_on_first_ramp, named, verdict
 
 MOST_EVENTS, MOST_MARKS, MOST_CUTS = 30, 12, 12
+TAKEN = ("Of each class the most ticks from the onset, or the later begin of the span, to the one at which the first watch finds "
+         "something, both counted. A dashed line is the most by <code>within</code>, where <code>hidden</code> is 0 in one row of the "
+         "class; else a bar is white. Runs in which something is found before the onset, or answers are sent within their window, "
+         "don't count, and of a path that can't open only what a start-up test finds.")
 FOLDED = ("Files and texts", "Recorded readings", "Coupled runs")  # claims that a page tells in one line
+LAST_NUMBER = re.compile(r"[0-9]+$")
 CLAIM = re.compile(r"^\| (\d+)\. ", re.M)
-PARTS = [("limits", "Limits of the calibration"), ("table", "Runs"), ("margins", "Margins"),
+PARTS = [("limits", "Limits of the calibration"), ("coverage", "What finds a fault"), ("table", "Runs"), ("margins", "Margins"),
          ("sweeps", "Every class of fault"), ("pictures", "Pictures of the runs"),
          ("others", "Coupled runs and recordings"), ("assumptions", "Assumptions"),
          ("claims", "What is proved"), ("not-claimed", "What isn't claimed"), ("provenance", "What this page was made from")]
 
 
 def parts(played, asked):
-    tellers = (limits, rows, margins, sweeps, pictures, others, assumptions, claims, not_claimed, provenance)
+    tellers = (limits, coverage, rows, margins, sweeps, pictures, others, assumptions, claims, not_claimed, provenance)
     told = [(*part, teller) for part, teller in zip(PARTS, tellers)
             if teller is not others or played.coupled or played.replayed]
     yield from about(played, asked)
@@ -115,6 +122,30 @@ def limits(played):
     yield from table("limits", ("Line", "Number", "What it says"), rows)
 
 
+def coverage(played):
+    units = played.units
+    yield paragraph("This is said of the calibration, without a run, and of no share of faults.")
+    yield from table("coverage: what finds a fault of each class", played.coverage[0],
+                     [[LAST_NUMBER.sub(lambda ticks: units.ticks(ticks[0]), cell) if name in ("within", "off") else cell
+                       for name, cell in row.items()] for row in played.coverage], "data")
+    yield from columns("The rows of `coverage`", played.coverage)
+    yield from taken_part(played.taken, units)
+
+
+def taken_part(taken, units):
+    """The picture of how long the runs of each class take until something is found."""
+    if all(one.most is None for one in taken.values()):
+        yield paragraph("In no run is anything found from the onset of a fault on, so there is no picture of how long it takes.")
+        return
+    about = "; ".join(f"{kind} {'none' if one.most is None else f'{units.ticks(one.most)} in {one.run}'}"
+                      + (f", within {units.ticks(one.within)}" if one.within is not None else "") for kind, one in taken.items())
+    yield "<figure>"
+    yield from taken_picture("taken", "How long it takes until faults are found", f"{about}.",
+                             {kind: (one.most, one.within) for kind, one in taken.items()}, units)
+    yield f"<figcaption>{TAKEN}</figcaption>"
+    yield "</figure>"
+
+
 def pair(row, name, units=Units()):
     return f"{row[name]} at {units.ticks(row[f'{name}_at'])}" if row[name] else ""
 
@@ -128,6 +159,10 @@ def rows(played):
     names = ("run", "confirmed", "stretch", "peak", "reaction", "bound", "settled")
     yield from table("table: how long it took", (*names, "shows that R is kept"),
                      [[*(units.cell(name, row[name]) for name in names), evidence(row)] for row in played.rows], "data")
+    yield from table("Runs by the watch that finds something first", HEADS,
+                     matrix(Counter((row["class"], first_of(row)) for row in played.rows)), "data")
+    yield paragraph("Where nothing is found, the last two columns say whether a true excess was confirmed. These are counts of these "
+                    "runs alone.")
     yield paragraph("Whether a row shows that R is kept is told of a drive of one power cycle; of one with resets see its "
                     "picture.")
     yield from columns("The rows of `table`", played.rows)

@@ -54,6 +54,7 @@ def beyond_point(played):
     beyond += [f"reaction of {kind} in the sweep of {sweep.runs[0]}" for sweep in played.sweeps
                for kind, reaction in sweep.reactions.items()
                if kind != "lapse" and (reaction or 0) > int(played.limits["reaction"])]
+    beyond += [f"ticks until {run} is found" for one in played.taken.values() for run in one.beyond]
     return [(FAILS, f"Against what is proved, more than limits allow: {named(beyond)}.")] if beyond else []
 
 

@@ -13,10 +13,10 @@ from lib.joining import Summary, bounds_of, fault_of_table, join, print_summary,
 from in_folder import InFolder
 from notes import note_of
 
-HEAD = "run,class,onset,acted,confirmed,stretch,reaction,settled,bound"
+HEAD = "run,class,onset,acted,first,confirmed,stretch,reaction,settled,bound"
 PLANNED = {"00001": "run,drive,image\nr1,a.csv,i.hex\nr2,./=1.csv,i.hex\n", "00002": "run,drive,image\nr3,a.csv,i.hex\n"}
-PLAYED = {"00001": f"{HEAD}\nr1,none,,,9,5,1,1,34\nr2,halt,3,1,9,30,20,1,34\n",
-          "00002": f"{HEAD}\nr3,halt,90,0,,0,,,34\n"}
+PLAYED = {"00001": f"{HEAD}\nr1,none,,,torque,9,5,1,1,34\nr2,halt,3,1,,9,30,20,1,34\n",
+          "00002": f"{HEAD}\nr3,halt,90,0,,,0,,,34\n"}
 STAMP = "0a  egasim\n0b  campaigns/{0}.toml\n"
 JOINED = """run,drive,image,slices,engine,add,after,at,every,mask,module,offset,opens,path,questions,track,values,word,"""
 
@@ -52,12 +52,14 @@ class Joining(InFolder):
         out, err, note = said_by(join, "s")
         self.assertEqual((err, note), ("", None))
         self.assertEqual(read("s/study.csv").decode().splitlines()[1:], [
-            "r1,a.csv,i.hex,none,,,9,5,1,1,34", "r2,./=1.csv,i.hex,halt,3,1,9,30,20,1,34",
-            "r3,a.csv,i.hex,halt,90,0,,0,,,34"])
+            "r1,a.csv,i.hex,none,,,torque,9,5,1,1,34", "r2,./=1.csv,i.hex,halt,3,1,,9,30,20,1,34",
+            "r3,a.csv,i.hex,halt,90,0,,,0,,,34"])
         self.assertEqual(read("s/study.csv").decode().splitlines()[0], JOINED + HEAD.removeprefix("run,"))
         self.assertEqual([line.split() for line in out.splitlines()[1:]],
                          [["none", "1", "0", "0", "0", "0", "1", "34", "5", "38"],
                           ["halt", "2", "1", "1", "0", "1", "20", "34", "30", "38"]])
+        self.assertEqual(read("s/matrix.csv").decode(), 'class,mirror,pedal,plate,load,speed,torque,answers,start,"nothing, no excess",'
+                         '"nothing, excess"\nnone,0,0,0,0,0,1,0,0,0,0\nhalt,0,0,0,0,0,0,0,0,1,1\n')
 
     def test_a_study_that_has_all_tables_is_kept(self):
         self.put("s/egasim", b"\x7fELF", 0o755)
@@ -66,7 +68,7 @@ class Joining(InFolder):
         self.assertEqual([read(f"k/00002/{name}").decode() for name in ("command", "output", "notes", "status", "read.sum")],
                          ["egasim table campaigns/00002.toml\n", PLAYED["00002"], "", "0\n", "0b  campaigns/00002.toml\n"])
         self.assertEqual((read("k/place"), read("k/tool.sum").decode()), (b"s\n", "".join(
-            f"{sum_of(read(f's/{name}'))}  {name}\n" for name in ("MANIFEST", "study.csv"))))
+            f"{sum_of(read(f's/{name}'))}  {name}\n" for name in ("MANIFEST", "study.csv", "matrix.csv"))))
         self.assertIn(f"program {sum_of(read('s/egasim'))}", read("k/version").decode().splitlines())
         self.assertEqual(said_by(join, "s", None, "k")[2], "k is there already")
         for name in ("s/campaigns/00002.sum", "s/tables/00002.sum"):
@@ -79,7 +81,7 @@ class Joining(InFolder):
         # So many rows that half of them are on the disk when the second call begins, which is through before the first.
         runs = [f"r{number}" for number in range(5000)]
         self.put("s/campaigns/00001.csv", "run,drive,image\n" + "".join(f"{run},a.csv,i.hex\n" for run in runs))
-        self.play("00001", f"{HEAD}\n" + "".join(f"{run},none,,,9,5,1,1,34\n" for run in runs))
+        self.play("00001", f"{HEAD}\n" + "".join(f"{run},none,,,torque,9,5,1,1,34\n" for run in runs))
         write_joined("s", ["00001"])
         whole, others = read("s/study.csv"), []
 
@@ -95,7 +97,7 @@ class Joining(InFolder):
             write_joined("s", ["00001"])
         self.assertEqual(others[1], whole)
         self.assertEqual(read("s/study.csv"), whole)
-        self.assertEqual(sorted(os.listdir("s")), ["MANIFEST", "campaigns", "plan.toml", "study.csv", "tables"])
+        self.assertEqual(sorted(os.listdir("s")), ["MANIFEST", "campaigns", "matrix.csv", "plan.toml", "study.csv", "tables"])
 
     def test_table_that_does_not_count_is_told(self):
         wrong = "its table isn't of this program and these inputs; once it is removed, it can be made again"
@@ -137,7 +139,7 @@ class Joining(InFolder):
     def test_rows_belong_together(self):
         self.assertEqual([(plan["drive"], row["class"]) for plan, row in rows_of("s", "00001")],
                          [("a.csv", "none"), ("./=1.csv", "halt")])
-        for table in (f"{HEAD}\n", PLAYED["00001"] + "r9,none,,,9,5,1,1,34\n", PLAYED["00001"].replace("r2", "r9")):
+        for table in (f"{HEAD}\n", PLAYED["00001"] + "r9,none,,,torque,9,5,1,1,34\n", PLAYED["00001"].replace("r2", "r9")):
             self.play("00001", table)
             self.assertEqual(note_of(list, rows_of("s", "00001")), "campaign 00001: the table has other runs than the plan")
 

@@ -1,10 +1,10 @@
-"""The pictures of a run and of a sweep. What they look like as a whole, read_back compares."""
+"""The pictures of a run, and bars of classes of faults. What they look like as a whole, read_back compares."""
 
 import unittest
 import xml.etree.ElementTree
 
 from lib.units import Units
-from lib.pictures import LEFT, MOST_ROWS, RIGHT, WIDTH, Scale, curve, placed, record_picture, spans, sweep_picture
+from lib.pictures import LEFT, MOST_ROWS, RIGHT, WIDTH, Scale, curve, placed, record_picture, spans, sweep_picture, taken_picture
 
 RECORD = {"tick": [588, 589, 590], "torque": [0, 900, 900], "limit": [200] * 3, "path1": [1] * 3, "path2": [1] * 3,
           "on": [1, 1, 0], "found": ["-", "-", "torque"]}
@@ -69,6 +69,16 @@ class Pictures(unittest.TestCase):
         _, texts = texts_of(sweep_picture("s", "A sweep", "words", {"halt": 29, "bus": None, "lapse": 0}, 34))
         for word in ("halt", "29", "bus", "none", "lapse", "0", "R 34"):
             self.assertIn(word, texts)
+
+    def test_each_class_has_its_own_bound(self):
+        root, texts = texts_of(taken_picture("t", "Taken", "words", {"halt": (30, 34), "flip": (1, 1), "bus": (9, None), "skip": (None, 34)},
+                                             Units(10**7)))
+        for word in ("halt", "30 (300 ms)", "bus", "9 (90 ms)", "skip", "none", "most ticks until something is found, and in ms"):
+            self.assertIn(word, texts)
+        bounds = [line.get("points") for line in root.iter("{http://www.w3.org/2000/svg}polyline") if line.get("stroke-width") == "2"]
+        self.assertEqual(bounds, ["300.0,24.0 300.0,42.0", "94.2,42.0 94.2,60.0", "300.0,78.0 300.0,96.0"])
+        fills = [box.get("fill") for box in root.iter("{http://www.w3.org/2000/svg}rect") if box.get("x")]
+        self.assertEqual(fills, ["#5f7f9f", "#5f7f9f", "white"])
 
 
 if __name__ == "__main__":

@@ -6,13 +6,14 @@ from types import SimpleNamespace
 
 from lib.documents import section_of
 from lib.playing import document
+from lib.detecting import Taken
 from lib.units import Units
-from lib.telling import about, claims, greatest, pair, summary, sweeps, swept_most, warnings
+from lib.telling import about, claims, coverage, greatest, pair, summary, sweeps, swept_most, warnings
 
 
 def played_of(**parts):
     return SimpleNamespace(**{"units": Units(), "campaign": "c.toml", "calibration": None, "date": "2026-01-02 03:04 UTC", "version": ["egasim 9", "x"],
-                              "rows": [], "sweeps": [], "not_asked": [], "left": 0, "limits": {"reaction": "34"}, **parts})
+                              "rows": [], "taken": {}, "sweeps": [], "not_asked": [], "left": 0, "limits": {"reaction": "34"}, **parts})
 
 
 class Telling(unittest.TestCase):
@@ -47,6 +48,16 @@ class Telling(unittest.TestCase):
         self.assertIn("2 more drives", text)
         self.assertIn("<code>none</code> counts the runs in which no watch finds anything.", text)
         self.assertNotIn("Not swept", "\n".join(sweeps(played_of())))
+
+    def test_what_finds_a_fault_is_told_in_units(self):
+        rows = [{"class": "halt", "within": "34", "off": "confirmed + 34", "hidden": "0"}, {"class": "bus", "within": "-", "off": "-", "hidden": "1"}]
+        halt = Taken(34)
+        halt.add("halt-3", 30)
+        text = "\n".join(coverage(played_of(coverage=rows, taken={"halt": halt, "bus": Taken(None)}, units=Units(10**7))))
+        self.assertIn('<th scope="row">halt</th><td>34 (340 ms)</td><td>confirmed + 34 (340 ms)</td><td class="number">0</td>', text)
+        self.assertIn('<th scope="row">bus</th><td>-</td><td>-</td><td class="number">1</td>', text)
+        self.assertIn(">halt 30 (300 ms) in halt-3, within 34 (340 ms); bus none.</desc>", text)
+        self.assertIn("there is no picture", "\n".join(coverage(played_of(coverage=rows))))
 
     def test_greatest_numbers_and_their_runs(self):
         rows = [{"run": "a", "reaction": ""}, {"run": "b", "reaction": "9"}, {"run": "c", "reaction": "29"}, {"run": "d", "reaction": "29"}]

@@ -29,7 +29,7 @@ def margin_of(name, **weights):
 
 def played_of(**parts):
     rows = [row_of("sound", "none"), shown_by("halt-0", "halt")]
-    return SimpleNamespace(**{"units": Units(), "limits": LIMITS, "period": 10, "has_ramp": False, "rows": rows, "sweeps": [], "sound": ["sound"],
+    return SimpleNamespace(**{"units": Units(), "limits": LIMITS, "period": 10, "has_ramp": False, "rows": rows, "taken": {}, "sweeps": [], "sound": ["sound"],
                               "weights": WEIGHTS, "margins": [margin_of("sound", torque="4"), margin_of("halt-0", torque="5")], "blind": [], "resets": lambda name: [], **parts})
 
 
@@ -167,6 +167,8 @@ class Verdicts(unittest.TestCase):
         self.assertEqual(beyond_point(played_of(rows=rows, sweeps=[swept])), [
             (FAILS, "Against what is proved, more than limits allow: reaction of a, reaction of halt in the sweep of s.")])
         self.assertEqual(points(played_of(rows=rows), asked_of())[0][1][:7], "Against")
+        self.assertEqual(beyond_point(played_of(taken={"halt": SimpleNamespace(beyond=["b"]), "bus": SimpleNamespace(beyond=[])})), [
+            (FAILS, "Against what is proved, more than limits allow: ticks until b is found.")])
 
     def test_it_fits_only_where_all_does(self):
         self.assertEqual({state for state, _ in points(played_of(), asked_of())}, {FITS})
