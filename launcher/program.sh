@@ -17,9 +17,9 @@ clean() {
 trap clean EXIT; trap 'exit 129' HUP; trap 'exit 130' INT; trap 'exit 141' PIPE; trap 'exit 143' TERM
 
 # Does this, in words of find, with what the program is built from, below the folder where it is called. What rt makes,
-# must-fail edits, and what editors leave (names that begin with a dot or #, or end with ~) are no sources.
+# wrong bodies, and what editors leave (names that begin with a dot or #, or end with ~) are no sources.
 sources() {
-  find HANDLES crates.txt crates \( \( -name out -o -name must-fail \) -path 'crates/*/*' ! -path 'crates/*/*/*' -o \
+  find HANDLES crates.txt crates \( \( -name out -o -name must-fail -o -name wrong-bodies \) -path 'crates/*/*' ! -path 'crates/*/*/*' -o \
     -name '.*' -o -name '#*' -o -name '*~' \) -prune -o "$@"
 }
 

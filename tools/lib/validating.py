@@ -50,6 +50,7 @@ def steps_of(numbers, seed, jobs):
     return [
         Step("gate", [GATE], ("rt",)),
         Step("cases", ["cases/run"]), Step("streams", ["cases/streams"]), Step("examples", ["examples/run"]),
+        Step("edits", ["bench/edits"], ("rt",)),
         *compared,
         Step("fuzz", ["bench/fuzz", str(seed), str(numbers["inputs"]), str(jobs)], ("rustc", "cc")),
         Step("refuse", ["bench/refuse", "--part", f"1/{numbers['parts']}"], ("cc",)),

@@ -23,8 +23,8 @@ class Validating(InFolder):
 
     def test_the_steps_of_a_whole_validation(self):
         self.assertEqual([" ".join(step.words) for step in steps_of(WHOLE, 7, 3)], [
-            ".ci/run", "cases/run", "cases/streams", "examples/run", "bench/compare 7 667", "bench/compare 8 667", "bench/compare 9 666",
-            "bench/fuzz 7 20000 3", "bench/refuse --part 1/1", "bench/escape", "bench/escape 7 20000"])
+            ".ci/run", "cases/run", "cases/streams", "examples/run", "bench/edits", "bench/compare 7 667", "bench/compare 8 667",
+            "bench/compare 9 666", "bench/fuzz 7 20000 3", "bench/refuse --part 1/1", "bench/escape", "bench/escape 7 20000"])
         for jobs in range(1, 30):
             shares = [int(step.words[2]) for step in steps_of(SMALL, 1, jobs) if step.name.startswith("compare")]
             self.assertEqual((sum(shares), min(shares) > 0), (SMALL["campaigns"], True))
@@ -103,7 +103,7 @@ class Validating(InFolder):
         for words, note in (("there", "there is there already"), ("a b", usage), ("a --gate --gate-log l", usage),
                             ("a --jobs 0", "--jobs takes a whole number from 1 to 999999999"),
                             ("a --odd", "--odd is no word of it; --help tells the words"),
-                            ("a --without gate", "--without takes one of cases, streams, examples, compare, fuzz, refuse, addresses, images"),
+                            ("a --without gate", "--without takes one of cases, streams, examples, edits, compare, fuzz, refuse, addresses, images"),
                             ("a --gate-log gone", "cannot read gone: No such file or directory")):
             done = subprocess.run([sys.executable, f"{TOOLS}/validate", *words.split()], capture_output=True, text=True,
                                   check=False, env=os.environ | {"EGASIM_PROGRAM": "/bin/true"})
