@@ -1,9 +1,8 @@
 -- Outside the headline. What the code keeps of the lines of a source until all are read.
 use Rattle.std.specs.Prelude.{◌≡◌, ℕ, ◌+◌, if◌then◌else◌, Bool, false, List, [], ◌∷◌, ◌++◌, length, Option, Some, None, is_some, IsSome, map}
-use Rattle.std.specs.BTreeMap.{get}
-use Rattle.std.specs.Cmp.Lexicographic.{slice_cmp}
+use Rattle.std.specs.HashMap.{get}
 use Rattle.std.specs.List.{cons_option}
-use Rattle.std.specs.Ordering.{nat_cmp}
+use Rattle.std.specs.Str.{bytes_eq}
 use denote.Ref.{Bor}
 use Rattle.eg_asm.specs.declared.fault.AsmFault.{AsmFault}
 use Rattle.eg_asm.specs.declared.source.Placed.{Placed}
@@ -60,7 +59,7 @@ placed_shown placed = (placed.line, instruction_shown placed.instruction)
 abbrev pub HoldsItems : Source → List Item → Type 0
 HoldsItems source items =
     Keeps (λ (name : Bor (List ℕ)). name.now) items (map placed_shown source.instructions.items)
-    (get (λ x y. slice_cmp nat_cmp x.now y.now) source.labels) source.repeated
+    (get (λ x y. bytes_eq x.now y.now) source.labels) source.repeated
 
 -- Where the old source holds what is kept of some items, the new one holds what is kept of these and of one
 -- more, whose line has this number and tells this.

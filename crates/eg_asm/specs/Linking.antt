@@ -1,9 +1,8 @@
 -- Outside the headline. The words of what is kept of a source, once all of its labels are known.
 use Rattle.std.specs.Prelude.{◌≡◌, ℕ, ◌+◌, min, List, [], ◌∷◌, Option, Some, None, is_some, if◌then◌else◌, option_map, option_and_then, Result, Ok, Err}
-use Rattle.std.specs.BTreeMap.{get, BTreeMap}
-use Rattle.std.specs.Cmp.Lexicographic.{slice_cmp}
+use Rattle.std.specs.HashMap.{get, HashMap}
 use Rattle.std.specs.List.{cons_option}
-use Rattle.std.specs.Ordering.{nat_cmp}
+use Rattle.std.specs.Str.{bytes_eq}
 use denote.Ref.{Bor}
 use Rattle.eg_asm.specs.declared.fault.AsmFault.{AsmFault}
 use Rattle.eg_asm.specs.declared.fault.AsmFault.TheVariants as fault
@@ -50,6 +49,6 @@ linked_kept labels instructions repeated =
     words_unless (completed_words labels 0 instructions) (earlier (unresolved labels 0 instructions) repeated)
 
 -- the code's map tells where these labels are
-abbrev pub HasLabels : BTreeMap (Bor (List ℕ)) ℕ → Labels → Type 0
-HasLabels tree labels =
-    (name : Bor (List ℕ)) → get (λ x y. slice_cmp nat_cmp x.now y.now) tree name ≡ address_of labels name.now
+abbrev pub HasLabels : {S : Type 0} → HashMap (Bor (List ℕ)) ℕ S → Labels → Type 0
+HasLabels map labels =
+    (name : Bor (List ℕ)) → get (λ x y. bytes_eq x.now y.now) map name ≡ address_of labels name.now

@@ -12,7 +12,7 @@ use crate::instruction::Instruction;
 use crate::line::{Line, read_line};
 use eg_input::MOST_WORDS;
 use std::alloc::Global;
-use std::collections::BTreeMap;
+use std::collections::HashMap;
 
 /// An instruction, and the number of its line.
 #[derive(Clone, Copy)]
@@ -25,7 +25,7 @@ pub(crate) struct Placed<'a> {
 #[derive(Drop)]
 pub(crate) struct Source<'a> {
     pub(crate) instructions: Vec<Placed<'a>>,
-    pub(crate) labels: BTreeMap<&'a [u8], u16>,
+    pub(crate) labels: HashMap<&'a [u8], u16>,
     pub(crate) repeated: Option<u32>,
 }
 
@@ -67,7 +67,7 @@ impl<'a> Source<'a> {
     {
         Source {
             instructions: Vec::new(alloc),
-            labels: BTreeMap::new(alloc),
+            labels: HashMap::new(alloc),
             repeated: None,
         }
     }

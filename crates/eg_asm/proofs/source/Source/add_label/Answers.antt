@@ -1,10 +1,7 @@
 use Rattle.std.proofs.Common.{◌≡◌, ◌∙◌, sym, ap, ℕ, ◌+◌, List, Some, length, map, cond, arith, Bor}
-use Rattle.std.specs.BTreeMap.{get}
-use Rattle.std.specs.Cmp.Lexicographic.{slice_cmp}
+use Rattle.std.specs.HashMap.{get}
 use Rattle.std.specs.Option.{option_or}
-use Rattle.std.specs.Ordering.{nat_cmp}
 use Rattle.std.specs.Str.{bytes_eq}
-use Rattle.std.specs.Cmp.Lexicographic.{texts_ties}
 use Rattle.std.proofs.lemmas.List.{length-map}
 use Rattle.eg_asm.specs.Kept.{placed_shown}
 use Rattle.eg_asm.proofs.KeepsLemmas.{keeps-again, keeps-new}
@@ -19,9 +16,8 @@ pub returns-in-Ok-clause-kept : goal.returns-in-Ok-clause-kept
 returns-in-Ok-clause-kept c = λ items item has is place_is k.
     let now = c.args.self.now in
     let words : c.len-words.result ≡ length (map placed_shown now.instructions.items) = omega (arith, length-map now.instructions.items placed_shown, now.instructions.ok.0) in
-    let put : (other : Bor (List ℕ)) → get (λ x y. slice_cmp nat_cmp x.now y.now) c.insert.new.self other
-    ≡ cond (bytes_eq c.args.name.now other.now) (Some (length (map placed_shown now.instructions.items))) (get (λ x y. slice_cmp nat_cmp x.now y.now) now.labels other) =
+    let put : (other : Bor (List ℕ)) → get (λ x y. bytes_eq x.now y.now) c.insert.new.self other
+    ≡ cond (bytes_eq c.args.name.now other.now) (Some (length (map placed_shown now.instructions.items))) (get (λ x y. bytes_eq x.now y.now) now.labels other) =
     λ other. c.in-Ok.ensures.updates.0 other
-    ∙ ap (λ b. cond b (Some c.len-words.result) (get (λ x y. slice_cmp nat_cmp x.now y.now) now.labels other)) (sym (texts_ties c.args.name.now other.now))
-    ∙ ap (λ n. cond (bytes_eq c.args.name.now other.now) (Some n) (get (λ x y. slice_cmp nat_cmp x.now y.now) now.labels other)) words in
+    ∙ ap (λ n. cond (bytes_eq c.args.name.now other.now) (Some n) (get (λ x y. bytes_eq x.now y.now) now.labels other)) words in
     keeps-new _ items item _ _ _ _ c.args.name has is (sym c.if-contains_key.ensures) put k
