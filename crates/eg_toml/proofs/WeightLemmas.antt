@@ -1,14 +1,15 @@
 -- What one byte more adds to a document's weight and to what is counted.
-use Rattle.std.proofs.Common.{◌≡◌, ℕ, ◌+◌, ◌-◌, ◌<◌, ◌≤◌, ◌==◌, nat_lt, if◌then◌else◌, Bool, true, false, List, [], ◌∷◌, All, length, drop, slice_index, slice_index_or, ap, sym, subst, ◌∙◌, arith}
+use Rattle.std.proofs.Common.{◌≡◌, ◌≢◌, ℕ, zero, suc, refl, take, ◌+◌, ◌-◌, ◌<◌, ◌≤◌, ◌==◌, nat_lt, if◌then◌else◌, Bool, true, false, List, [], ◌∷◌, All, length, drop, slice_index_or, ap, sym, subst, ◌∙◌, arith}
 use Rattle.std.specs.Prelude.{fold}
-use Rattle.std.specs.Str.{byte}
+use Rattle.std.specs.Str.{byte, chars}
 use Rattle.std.proofs.lemmas.Bool.Decides.{nat_tests}
-use Rattle.std.proofs.lemmas.List.{drop_more}
+use Rattle.std.proofs.lemmas.List.{length-drop, take_all}
 use Rattle.std.proofs.lemmas.List.Elements.{All-nil, All-cons, All-append, All-take}
+use Rattle.eg_toml.specs.declared.places.Place.TheVariants.{Comment}
 use Rattle.eg_toml.specs.declared.weight.Counts.{Counts}
 use Rattle.eg_toml.specs.declared.weight.Due.{Due}
 use Rattle.eg_toml.specs.Places.{settled, is_outside}
-use Rattle.eg_toml.specs.Weight.{Weighed, deepest, heaviest, names_behind, begins_heading, begins_item, is_opening, is_closing, with_item, with_sign, no_counts, opened, closed, with_lists, weighed_outside, weighed_on, unweighed, weight_of, is_too_heavy}
+use Rattle.eg_toml.specs.Weight.{Weighed, deepest, heaviest, names_behind, begins_heading, begins_item, is_opening, is_closing, with_item, with_sign, no_counts, opened, closed, with_lists, with_place, weighed_outside, weighed_on, unweighed, weight_of, is_too_heavy}
 
 -- what holds of both cases holds of the choice
 either : {A : Type 0} (P : A → Type 0) (b : Bool) (x y : A) → P x → P y → P (if b then x else y)
@@ -25,11 +26,11 @@ UpTo most counts = (counts.values ≤ most) × (counts.names ≤ most)
 abbrev pub CountsUpTo : ℕ → Weighed → Type 0
 CountsUpTo most w = UpTo most w.counts × All (UpTo most) w.around
 
-up : (most : ℕ) (counts : Counts) → UpTo most counts → UpTo (most + 1) counts
-up most counts h = let values = h.0 in let names = h.1 in (omega arith, omega arith)
+up : (most more : ℕ) (counts : Counts) → most ≤ more → UpTo most counts → UpTo more counts
+up most more counts under h = let values = h.0 in let names = h.1 in (omega arith, omega arith)
 
-rises : (most : ℕ) (xs : List Counts) → All (UpTo most) xs → All (UpTo (most + 1)) xs
-rises most xs h i d below = up most _ (h i d below)
+rises : (most more : ℕ) (xs : List Counts) → most ≤ more → All (UpTo most) xs → All (UpTo more) xs
+rises most more xs under h i d below = up most more _ under (h i d below)
 
 -- behind an item, names are counted up to what they were
 abbrev AfterItem : ℕ → Weighed → Type 0
@@ -37,9 +38,9 @@ AfterItem most w = (w.counts.values ≤ most + 1) × (w.counts.names ≤ most) �
 
 item-counts : (most c : ℕ) (w : Weighed) → CountsUpTo most w → AfterItem most (with_item w c)
 item-counts most c w h =
-    let values = h.0.0 in
+    let values = h.0.0 in let around = rises most (most + 1) w.around (omega arith) h.1 in
     either (AfterItem most) (begins_item w.due c) _ w
-    (omega arith, h.0.1, rises most w.around h.1) (omega arith, h.0.1, rises most w.around h.1)
+    (omega arith, h.0.1, around) (omega arith, h.0.1, around)
 
 names-within : (due : Due) (names most c : ℕ) → names ≤ most → names_behind due names c ≤ most + 1
 names-within due names most c h =
@@ -77,7 +78,7 @@ outside-counts most c w h =
 counts_on : (most c : ℕ) (w : Weighed) → CountsUpTo most w → CountsUpTo (most + 1) (weighed_on w c)
 counts_on most c w h =
     either (CountsUpTo (most + 1)) (is_outside (settled w.place c)) (weighed_outside w c) w
-    (outside-counts most c w h) (up most w.counts h.0, rises most w.around h.1)
+    (outside-counts most c w h) (up most (most + 1) w.counts (omega arith) h.0, rises most (most + 1) w.around (omega arith) h.1)
 
 -- ---- weights ----
 
@@ -117,13 +118,34 @@ stays_heavy w rest bytes whole heavy =
 
 -- ---- one byte more of the loop ----
 
-fold_on : (w : Weighed) (bytes : List ℕ) (i : ℕ) → i < length bytes
-    → fold weighed_on w (drop i bytes) ≡ fold weighed_on (weighed_on w (slice_index bytes i)) (drop (i + 1) bytes)
-fold_on w bytes i h = ap (fold weighed_on w) (drop_more bytes i 0 h)
+pub whole_on : (w after : Weighed) (bytes rest behind left : List ℕ) (c : ℕ)
+    → rest ≡ c ∷ behind → after ≡ weighed_on w c
+    → fold weighed_on after left ≡ fold weighed_on after behind → fold weighed_on w rest ≡ fold weighed_on unweighed bytes
+    → fold weighed_on after left ≡ fold weighed_on unweighed bytes
+whole_on w after bytes rest behind left c here is same whole =
+    same ∙ ap (λ v. fold weighed_on v behind) is ∙ ap (fold weighed_on w) (sym here) ∙ whole
 
-pub whole_on : (w after : Weighed) (bytes : List ℕ) (i : ℕ) → i < length bytes → after ≡ weighed_on w (slice_index bytes i)
-    → fold weighed_on w (drop i bytes) ≡ fold weighed_on unweighed bytes → fold weighed_on after (drop (i + 1) bytes) ≡ fold weighed_on unweighed bytes
-whole_on w after bytes i h is whole = ap (λ v. fold weighed_on v (drop (i + 1) bytes)) is ∙ sym (fold_on w bytes i h) ∙ whole
+pub counted_on : (w after : Weighed) (most more c : ℕ)
+    → most + 1 ≤ more → after ≡ weighed_on w c → CountsUpTo most w → CountsUpTo more after
+counted_on w after most more c under is h =
+    let (counts, around) = subst (CountsUpTo (most + 1)) (sym is) (counts_on most c w h) in
+    (up (most + 1) more after.counts under counts, rises (most + 1) more after.around under around)
 
-pub counted_on : (w after : Weighed) (most c : ℕ) → after ≡ weighed_on w c → CountsUpTo most w → CountsUpTo (most + 1) after
-counted_on w after most c is h = subst (CountsUpTo (most + 1)) (sym is) (counts_on most c w h)
+-- ---- the rest of a comment ----
+
+in_comment : (w : Weighed) (c : ℕ) → w.place ≡ Comment → c ≢ 10 → weighed_on w c ≡ w
+unfolding chars
+in_comment w c e other = let feed : (c == 10) ≡ false = grind (arith, nat_tests) in rw (e, feed) (refl {a = with_place w Comment})
+
+-- a slice from this place on
+pub slice_from : (n : ℕ) (bytes : List ℕ) → take (length bytes - n) (drop n bytes) ≡ drop n bytes
+slice_from n bytes = take_all (length bytes - n) (drop n bytes) (omega (arith, length-drop n bytes))
+
+-- what stands in a comment before its line feed adds nothing
+pub comment_over : (w : Weighed) (end : ℕ) (bytes : List ℕ) → w.place ≡ Comment → All (λ c. c ≢ 10) (take end bytes)
+    → fold weighed_on w (drop end bytes) ≡ fold weighed_on w bytes
+comment_over w zero bytes e plain = refl
+comment_over w (suc end) [] e plain = refl
+comment_over w (suc end) (c ∷ cs) e plain =
+    comment_over w end cs e (λ i d below. plain (suc i) d (omega arith))
+    ∙ ap (λ v. fold weighed_on v cs) (sym (in_comment w c e (plain 0 c (omega arith))))

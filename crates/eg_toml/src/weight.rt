@@ -1,9 +1,10 @@
 // What a document weighs.
-ghost use Rattle.std.specs.Prelude.{◌≡◌, ◌+◌, ◌<◌, ◌≤◌, ◌^◌};
+ghost use Rattle.std.specs.Prelude.{◌≡◌, ◌≢◌, ◌+◌, ◌<◌, ◌≤◌, ◌^◌, All, fold, length, take};
 ghost use Rattle.eg_toml.specs.Weight as spec;
 
 use crate::places::Place;
 use arrayvec::ArrayVec;
+use memchr::memchr;
 use std::marker::Model;
 
 /// What is due where the next byte of a document stands (docs/FORMATS.md, "What a document weighs").
@@ -87,13 +88,26 @@ pub fn is_too_heavy(bytes: &[u8]) -> bool
     ensures { result ≡ spec.is_too_heavy bytes.now }
 {
     let mut scale = Scale::new();
-    for byte in bytes {
+    let mut rest = bytes;
+    while let [byte, behind @ ..] = rest {
         scale.put(*byte);
         if scale.weight > HEAVIEST {
             return true;
         }
+        rest = scale.past_comment(behind);
     }
     false
+}
+
+/// How many bytes stand before the first line feed, or how many there are.
+fn line_length(bytes: &[u8]) -> usize
+    ensures within { result ≤ length bytes.now }
+    ensures before { All (λ byte. byte ≢ 10) (take result bytes.now) }
+{
+    match memchr(b'\n', bytes) {
+        Some(place) => place,
+        None => bytes.len(),
+    }
 }
 
 impl Scale {
@@ -123,6 +137,18 @@ impl Scale {
             self.put_outside(byte);
         }
         self.place = place.behind(byte);
+    }
+
+    /// What is left of the bytes that come next without the rest of the comment that they stand in, if any,
+    /// which weighs nothing.
+    fn past_comment<'a>(&self, bytes: &'a [u8]) -> &'a [u8]
+        ensures same { fold spec.weighed_on self.now result.now ≡ fold spec.weighed_on self.now bytes.now }
+        ensures short { length result.now ≤ length bytes.now }
+    {
+        match self.place {
+            Place::Comment => &bytes[line_length(bytes)..],
+            _ => bytes,
+        }
     }
 
     /// Weighs one byte more, which stands outside of comments and texts.
