@@ -1,5 +1,5 @@
 -- What the numbers of `coverage` mean: what holds of each class of fault.
-use Rattle.std.proofs.Common.{◌≡◌, refl, sym, ap, ℕ, Bool, true, false, ◌||◌, Some}
+use Rattle.std.proofs.Common.{◌≡◌, ◌∙◌, refl, sym, ap, ℕ, Bool, true, false, ◌||◌, Some}
 use Rattle.std.proofs.lemmas.Bool.{or_left, or_right, true≢false}
 use Rattle.eg_answer.specs.Times.{TimeParts}
 use Rattle.eg_values.specs.Calibration.{CalibrationParts}
@@ -7,18 +7,21 @@ use Rattle.eg_plant.specs.declared.engine_kind.EngineKind.TheVariants as kind
 use Rattle.eg_fault.specs.Effects.{Effects, no_effects}
 use Rattle.eg_fault.specs.Faults.{effects_of, is_lapse}
 use Rattle.eg_fault.specs.Running.{may_change_levels}
-use Rattle.eg_fault.specs.Names.{name_of, class_index}
+use Rattle.eg_fault.specs.Names.{name_of, class_index, swept}
 use Rattle.eg_fault.specs.declared.class.Class.{Class}
 use Rattle.eg_fault.specs.declared.class.Class.TheVariants as class
 use Rattle.eg_fault.specs.declared.class.Fault.{Fault}
+use Rattle.eg_fault.specs.declared.class_name.ClassName.{ClassName}
 use Rattle.eg_fault.specs.declared.class_name.ClassName.TheVariants as name
 use Rattle.eg_fault.specs.declared.paths.TheConstants.{PATH_1, PATH_2}
+use Rattle.eg_fault.proofs.NameLemmas.{by_name}
 use Rattle.eg_model.specs.Lapses.{IsLapse}
 use Rattle.eg_model.specs.Reaction.{reacts_at_once, spoils_answers}
 use Rattle.eg_model.proofs.EngineLaws.{keeps_of, shows_one_load_of}
 use Rattle.eg_laws.specs.Findings.{is_flip}
 use Rattle.eg_laws.specs.Coverage.{sends_outside, holds_closed}
 use Rattle.eg_laws.specs.Latent.{always_hides, hides_at_rest}
+use Rattle.eg_laws.specs.SharpUnder.{leaves_readings}
 use Rattle.eg_laws.proofs.LatentRuns.{low_loads_of}
 use Rattle.eg_laws.proofs.LatentRest.{rests_of, diesel_is_calm}
 use Rattle.eg_laws.proofs.LatentAtRest.{rest_hides}
@@ -94,60 +97,49 @@ unfolding is_of name_of class_index is_flip effects_of no_effects
 may_flip (class.Flip word mask) e = record { is = refl; obeys = λ k. by_latches _ refl refl; runs = λ k. refl }
 may_flip _ e = absurd (true≢false (sym e))
 
-pub bus_at_once : (class : Class) → is_of name.Bus class ≡ true → IsAtOnce class
-unfolding is_of name_of class_index is_lapse reacts_at_once
-bus_at_once (class.Bus mask) e = record { listed = refl; soon = λ onset tick. refl }
-bus_at_once _ e = absurd (true≢false (sym e))
+-- what depends on the name of a class alone
+pub named_lapse : (class : Class) → is_lapse class ≡ is_lapse (swept (name_of class))
+unfolding is_lapse swept name_of
+named_lapse (class.Lapse after every) = refl
+named_lapse _ = refl
 
-pub plate_at_once : (class : Class) → is_of name.Plate class ≡ true → IsAtOnce class
-unfolding is_of name_of class_index is_lapse reacts_at_once
-plate_at_once (class.Plate at) e = record { listed = refl; soon = λ onset tick. refl }
-plate_at_once _ e = absurd (true≢false (sym e))
+named_soon : (onset tick : ℕ) (class : Class) → reacts_at_once class onset tick ≡ reacts_at_once (swept (name_of class)) onset tick
+unfolding reacts_at_once swept name_of
+named_soon onset tick class.Halt = refl
+named_soon onset tick _ = refl
 
-pub timing_at_once : (class : Class) → is_of name.Timing class ≡ true → IsAtOnce class
-unfolding is_of name_of class_index is_lapse reacts_at_once
-timing_at_once (class.Timing offset) e = record { listed = refl; soon = λ onset tick. refl }
-timing_at_once _ e = absurd (true≢false (sym e))
+pub named_spoils : (class : Class) → spoils_answers class ≡ spoils_answers (swept (name_of class))
+unfolding spoils_answers swept name_of
+named_spoils class.Halt = refl
+named_spoils _ = refl
 
-pub wild_at_once : (class : Class) → is_of name.Wild class ≡ true → IsAtOnce class
-unfolding is_of name_of class_index is_lapse reacts_at_once
-wild_at_once (class.Wild questions opens) e = record { listed = refl; soon = λ onset tick. refl }
-wild_at_once _ e = absurd (true≢false (sym e))
+pub named_closed : (class : Class) → holds_closed class ≡ holds_closed (swept (name_of class))
+unfolding holds_closed swept name_of
+named_closed class.Path1Closed = refl
+named_closed _ = refl
 
-pub path_2_at_once : (class : Class) → is_of name.Path2Closed class ≡ true → IsAtOnce class
-unfolding is_of name_of class_index is_lapse reacts_at_once
-path_2_at_once class.Path2Closed e = record { listed = refl; soon = λ onset tick. refl }
-path_2_at_once _ e = absurd (true≢false (sym e))
+pub named_hides : (class : Class) → always_hides class ≡ always_hides (swept (name_of class))
+unfolding always_hides leaves_readings may_change_levels swept name_of
+named_hides (class.Timing offset) = refl
+named_hides _ = refl
 
-pub skip_spoils : (class : Class) → is_of name.Skip class ≡ true → spoils_answers class ≡ true
-unfolding is_of name_of class_index spoils_answers
-skip_spoils (class.Skip index) e = refl
-skip_spoils _ e = absurd (true≢false (sym e))
+-- so it holds of each class of a name as it does in a sweep
+pub as_swept : (holds : Class → Bool) → ((class : Class) → holds class ≡ holds (swept (name_of class))) → (n : ClassName) (b : Bool) →
+    holds (swept n) ≡ b → (class : Class) → is_of n class ≡ true → holds class ≡ b
+unfolding is_of
+as_swept holds named n b is class e = by_name holds named n class e ∙ is
 
-pub disturb_spoils : (class : Class) → is_of name.Disturb class ≡ true → spoils_answers class ≡ true
-unfolding is_of name_of class_index spoils_answers
-disturb_spoils (class.Disturb index mask) e = refl
-disturb_spoils _ e = absurd (true≢false (sym e))
+pub at_once : (n : ClassName) → is_lapse (swept n) ≡ false → ((onset tick : ℕ) → reacts_at_once (swept n) onset tick ≡ true) →
+    (class : Class) → is_of n class ≡ true → IsAtOnce class
+at_once n listed soon class e = record {
+  listed = as_swept is_lapse named_lapse n false listed class e;
+  soon = λ onset tick. as_swept (λ c. reacts_at_once c onset tick) (named_soon onset tick) n true (soon onset tick) class e;
+}
 
-pub halt_spoils : (class : Class) → is_of name.Halt class ≡ true → spoils_answers class ≡ true
-unfolding is_of name_of class_index spoils_answers
-halt_spoils class.Halt e = refl
-halt_spoils _ e = absurd (true≢false (sym e))
-
-pub path_1_listed : (class : Class) → is_of name.Path1Closed class ≡ true → is_lapse class ≡ false
-unfolding is_of name_of class_index is_lapse
-path_1_listed class.Path1Closed e = refl
-path_1_listed _ e = absurd (true≢false (sym e))
-
-pub path_1_holds : (class : Class) → is_of name.Path1Closed class ≡ true → holds_closed class ≡ true
-unfolding is_of name_of class_index holds_closed
-path_1_holds class.Path1Closed e = refl
-path_1_holds _ e = absurd (true≢false (sym e))
-
-pub path_2_holds : (class : Class) → is_of name.Path2Closed class ≡ true → holds_closed class ≡ true
-unfolding is_of name_of class_index holds_closed
-path_2_holds class.Path2Closed e = refl
-path_2_holds _ e = absurd (true≢false (sym e))
+-- what they are of by a class of a sweep
+unfoldable pub of_swept : ℕ
+unfolding swept is_lapse reacts_at_once spoils_answers holds_closed always_hides leaves_readings may_change_levels
+of_swept = 0
 
 pub wild_obeys : (class : Class) → is_of name.Wild class ≡ true → (k : ℕ) → (effects_of class k).conducts PATH_2 true ≡ false
 unfolding is_of name_of class_index effects_of no_effects
@@ -158,31 +150,6 @@ pub path_in : (c : Class) → is_of name.PathOpen c ≡ true → (path : ℕ) ×
 unfolding is_of name_of class_index
 path_in (class.PathOpen path) e = (path, refl)
 path_in _ e = absurd (true≢false (sym e))
-
-pub plate_hides : (class : Class) → is_of name.Plate class ≡ true → always_hides class ≡ true
-unfolding is_of name_of class_index always_hides
-plate_hides (class.Plate at) e = refl
-plate_hides _ e = absurd (true≢false (sym e))
-
-pub wild_hides : (class : Class) → is_of name.Wild class ≡ true → always_hides class ≡ true
-unfolding is_of name_of class_index always_hides
-wild_hides (class.Wild questions opens) e = refl
-wild_hides _ e = absurd (true≢false (sym e))
-
-pub path_1_hides : (class : Class) → is_of name.Path1Closed class ≡ true → always_hides class ≡ true
-unfolding is_of name_of class_index always_hides
-path_1_hides class.Path1Closed e = refl
-path_1_hides _ e = absurd (true≢false (sym e))
-
-pub path_2_hides : (class : Class) → is_of name.Path2Closed class ≡ true → always_hides class ≡ true
-unfolding is_of name_of class_index always_hides
-path_2_hides class.Path2Closed e = refl
-path_2_hides _ e = absurd (true≢false (sym e))
-
-pub open_hides : (class : Class) → is_of name.PathOpen class ≡ true → always_hides class ≡ true
-unfolding is_of name_of class_index always_hides
-open_hides (class.PathOpen path) e = refl
-open_hides _ e = absurd (true≢false (sym e))
 
 pub bus_hides : (class : Class) → is_of name.Bus class ≡ true → hides_at_rest class ≡ true
 unfolding is_of name_of class_index hides_at_rest
@@ -195,11 +162,10 @@ contact_hides (class.Script track values) e = e
 contact_hides (class.Offset track add) e = or_left _ _ e
 contact_hides _ e = absurd (true≢false (sym e))
 
-pub all_hide : (cal : CalibrationParts) (meant : Class → Bool) → ((c : Class) → meant c ≡ true → always_hides c ≡ true) →
-    AllHide cal meant
-all_hide cal meant hides accepted f valid one engine =
+pub all_hide : (cal : CalibrationParts) (n : ClassName) → always_hides (swept n) ≡ true → AllHide cal (is_of n)
+all_hide cal n hides accepted f valid one engine =
     readings_apart_hide (keeps_of engine) (shows_one_load_of engine) (low_loads_of engine) cal accepted f valid
-    (hides f.class one)
+    (as_swept always_hides named_hides n true hides f.class one)
 
 pub all_hide_at_rest : (cal : CalibrationParts) (meant : Class → Bool) → ((c : Class) → meant c ≡ true → hides_at_rest c ≡ true) →
     AllHideAtRest cal meant

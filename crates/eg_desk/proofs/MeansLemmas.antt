@@ -45,7 +45,7 @@ use Rattle.eg_desk.specs.declared.coverage.Off.TheVariants.{After, Confirmed}
 use Rattle.eg_desk.specs.Coverage.{AreTicks, found, unfound, lapse_off, lapse_hidden, numbers_of}
 use Rattle.eg_desk.specs.Means.{SmallOffsetsStay, SmallScriptsStay, MovesStay, on_contact, FindsFlip, FindsClosed, ReactsIn, ExcessIsBelow, RowMeans, MeansPedal, MeansApart, MeansUnfound, MeansSpoiled, MeansTested, MeansLapse, MeansSpaced, NumbersMean, is_of, IsOffFrom, FindsAnswersWithin, FindsApart, CutsApart, CutsOrdered}
 use Rattle.eg_desk.proofs.MeansRows.{at_row, all_by, any_append, IsBoth, both_paths, off_by_1, off_by_2, Obeys, Runs, obeys_plain, runs_plain, off_after_trip, answers_within, off_within, cuts, mirror_trips, cuts_apart, IsPlaced, placed, react_next}
-use Rattle.eg_desk.proofs.MeansClasses.{IsAtOnce, MayRead, by_script, by_offset, spoils_obeys, moved_obeys, MayFlip, may_flip, bus_at_once, plate_at_once, timing_at_once, wild_at_once, path_2_at_once, skip_spoils, disturb_spoils, halt_spoils, path_1_listed, path_1_holds, path_2_holds, wild_obeys, path_in, plate_hides, wild_hides, path_1_hides, path_2_hides, open_hides, bus_hides, contact_hides, all_hide, all_hide_at_rest, small_offsets_stay, small_scripts_stay, moves_stay, far_misses_stay, lapse_of}
+use Rattle.eg_desk.proofs.MeansClasses.{IsAtOnce, MayRead, by_script, by_offset, spoils_obeys, moved_obeys, MayFlip, may_flip, named_lapse, named_spoils, named_closed, as_swept, at_once, of_swept, wild_obeys, path_in, bus_hides, contact_hides, all_hide, all_hide_at_rest, small_offsets_stay, small_scripts_stay, moves_stay, far_misses_stay, lapse_of}
 
 -- ---- each run ----
 
@@ -353,19 +353,19 @@ module _ (cal : CalibrationParts) (ticks : CoverageTicks) (are : AreTicks cal ti
   means_spaced (Some n) is_spacing = (is_spacing.0, far_misses_stay)
 
   means_open : RowMeans cal case.PathOpen (numbers_of ticks case.PathOpen)
-  unfolding RowMeans numbers_of
+  unfolding RowMeans numbers_of of_swept
   means_open = (
     refl,
-    all_hide cal (is_of name.PathOpen) open_hides,
+    all_hide cal name.PathOpen refl,
     (λ engine r f run same is valid one. cuts_open
         (bench_of engine) r f is valid (path_in f.class one).0 (path_in f.class one).1),
   )
 
   means_ordered : RowMeans cal case.WildOpens (numbers_of ticks case.WildOpens)
-  unfolding RowMeans numbers_of
+  unfolding RowMeans numbers_of of_swept
   means_ordered = (
     refl,
-    all_hide cal (is_of name.Wild) wild_hides,
+    all_hide cal name.Wild refl,
     (λ engine r f run same is valid one. cuts_ordered (bench_of engine) r f is
         (of_class (λ x. x.conducts PATH_2 true ≡ false) f obeys_plain.open_2 (wild_obeys f.class (and_parts _ _ one).0))),
   )
@@ -381,7 +381,7 @@ module _ (cal : CalibrationParts) (ticks : CoverageTicks) (are : AreTicks cal ti
   )
 
   pub means : (one : CoverageCase) → RowMeans cal one (numbers_of ticks one)
-  unfolding RowMeans numbers_of
+  unfolding RowMeans numbers_of of_swept
   means case.ScriptPedal = means_pedal (is_of name.Script) by_script
   means case.ScriptPlate = means_apart (is_of name.Script) by_script Plate (unfold cuts in refl)
   means case.ScriptLoad = means_apart (is_of name.Script) by_script Load (unfold cuts in refl)
@@ -400,24 +400,26 @@ module _ (cal : CalibrationParts) (ticks : CoverageTicks) (are : AreTicks cal ti
   means case.OffsetContact = means_at_once _ _ (all_hide_at_rest cal _ (λ class e. contact_hides class (and_parts
       (is_of name.Offset class) _ e).1))
       (λ class e. (by_offset class (and_parts _ (on_contact class) e).0).at_once)
-  means case.Bus = means_at_once (is_of name.Bus) _ (all_hide_at_rest cal (is_of name.Bus) bus_hides) bus_at_once
-  means case.Plate = means_at_once (is_of name.Plate) _ (all_hide cal (is_of name.Plate) plate_hides) plate_at_once
-  means case.Skip = means_spoiled (is_of name.Skip) skip_spoils
-  means case.Disturb = means_spoiled (is_of name.Disturb) disturb_spoils
+  means case.Bus = means_at_once (is_of name.Bus) _ (all_hide_at_rest cal (is_of name.Bus) bus_hides)
+      (at_once name.Bus refl (λ onset tick. refl))
+  means case.Plate = means_at_once (is_of name.Plate) _ (all_hide cal name.Plate refl)
+      (at_once name.Plate refl (λ onset tick. refl))
+  means case.Skip = means_spoiled (is_of name.Skip) (as_swept spoils_answers named_spoils name.Skip true refl)
+  means case.Disturb = means_spoiled (is_of name.Disturb) (as_swept spoils_answers named_spoils name.Disturb true refl)
   means case.Flip = means_flip
-  means case.Halt = means_spoiled (is_of name.Halt) halt_spoils
+  means case.Halt = means_spoiled (is_of name.Halt) (as_swept spoils_answers named_spoils name.Halt true refl)
   means case.TimingOutside = means_moved
-  means case.TimingInside = means_at_once _ MovesStay moves_stay (λ class e. timing_at_once class
-      (and_parts _ _ e).0)
+  means case.TimingInside = means_at_once _ MovesStay moves_stay (λ class e.
+      at_once name.Timing refl (λ onset tick. refl) class (and_parts _ _ e).0)
   means case.WildOpens = means_ordered
-  means case.WildNever = means_at_once _ _ (all_hide cal (is_of name.Wild) wild_hides) (λ class e. wild_at_once class
-      (and_parts _ _ e).0)
-  means case.Path1Driven = means_within (is_of name.Path1Closed) _ (all_hide cal
-      (is_of name.Path1Closed) path_1_hides) path_1_listed
-  means case.Path1Tested = means_tested name.Path1Closed path_1_holds
-  means case.Path2Driven = means_at_once (is_of name.Path2Closed) _ (all_hide cal
-      (is_of name.Path2Closed) path_2_hides) path_2_at_once
-  means case.Path2Tested = means_tested name.Path2Closed path_2_holds
+  means case.WildNever = means_at_once _ _ (all_hide cal name.Wild refl) (λ class e.
+      at_once name.Wild refl (λ onset tick. refl) class (and_parts _ _ e).0)
+  means case.Path1Driven = means_within (is_of name.Path1Closed) _ (all_hide cal name.Path1Closed refl)
+      (as_swept is_lapse named_lapse name.Path1Closed false refl)
+  means case.Path1Tested = means_tested name.Path1Closed (as_swept holds_closed named_closed name.Path1Closed true refl)
+  means case.Path2Driven = means_at_once (is_of name.Path2Closed) _ (all_hide cal name.Path2Closed refl)
+      (at_once name.Path2Closed refl (λ onset tick. refl))
+  means case.Path2Tested = means_tested name.Path2Closed (as_swept holds_closed named_closed name.Path2Closed true refl)
   means case.PathOpen = means_open
   means case.Lapse = (refl, means_spaced ticks.spacing are.spacing, means_bound ticks.lapse are.lapse)
 

@@ -7,7 +7,7 @@ use Rattle.eg_answer.specs.Times.{HasMissSpacing}
 use Rattle.eg_values.specs.Calibration.{CalibrationParts, IsAccepted}
 use Rattle.eg_values.specs.Excess.{BoundsLapses}
 use Rattle.eg_plant.specs.declared.engine_kind.EngineKind.{EngineKind}
-use Rattle.eg_fault.specs.Faults.{effects, IsValid}
+use Rattle.eg_fault.specs.Faults.{effects, IsValid, opens_path}
 use Rattle.eg_fault.specs.Names.{name_of, class_index}
 use Rattle.eg_sensor.specs.declared.tracks.TheConstants.{PAIRED_TRACKS}
 use Rattle.eg_fault.specs.declared.class.Class.{Class}
@@ -23,7 +23,7 @@ use Rattle.eg_model.specs.Engines.{diesel, bench_of}
 use Rattle.eg_model.specs.Bench.{Run}
 use Rattle.eg_model.specs.Rows.{record_rows}
 use Rattle.eg_model.specs.Records.{IsRun, ExceedLast, ReactWithin}
-use Rattle.eg_laws.specs.Findings.{Finds, opens_path}
+use Rattle.eg_laws.specs.Findings.{Finds}
 use Rattle.eg_laws.specs.Availability.{has_tripped}
 use Rattle.eg_laws.specs.PairsFound.{Pair, disagrees_at, has_found}
 use Rattle.eg_laws.specs.PairsFound.{Pedal as pedal_pair, Plate as plate_pair, Load as load_pair, Speed as speed_pair}

@@ -53,6 +53,20 @@ effects_of (PathOpen path) k =
     record no_effects { conducts = λ other is_open. not (other == path) && not is_open }
 effects_of (Lapse after every) k = record no_effects { ran = λ i. not (is_left_out after every k) }
 
+-- Whether a class has an effect k ticks after the onset: a flip has one at the onset alone, a lapse at the
+-- ticks at which level 2 is left out, and any other class at each tick.
+unfoldable pub has_effect : Class → ℕ → Bool
+has_effect (Flip word mask) k = k == 0
+has_effect (Lapse after every) k = is_left_out after every k
+has_effect _ k = true
+
+-- the classes that open a shut-off path by themselves: that of a path that doesn't conduct, and that of a
+-- wild monitoring module whose list has an order to open path 2, whether or not its turn comes
+unfoldable pub opens_path : Class → Bool
+opens_path (PathOpen path) = true
+opens_path (Wild questions opens) = list_any (λ order. order) opens
+opens_path _ = false
+
 -- what is out of order at a tick: nothing before the onset, and without a fault
 unfoldable pub effects : Option Fault → ℕ → Effects
 effects None tick = no_effects

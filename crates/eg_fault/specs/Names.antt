@@ -1,6 +1,6 @@
 -- How the classes of faults are spelt, where they are read and where they are written: each of the fourteen
--- has a name, and own keys under which its numbers stand.
-use Rattle.std.specs.Prelude.{◌≡◌, ℕ, ℤ, Bool, List, [], ◌∷◌, ◌++◌, map, codes, decimal, bytes_eq, Option, Some, if◌then◌else◌}
+-- has a name, and own keys under which its numbers stand. And with which numbers a sweep plays each.
+use Rattle.std.specs.Prelude.{◌≡◌, ℕ, ℤ, pos, Bool, false, List, [], ◌∷◌, ◌++◌, map, codes, decimal, bytes_eq, Option, Some, if◌then◌else◌}
 use Rattle.std.specs.Fmt.{signed_decimal}
 use Rattle.std.specs.List.{concat, find}
 use Rattle.eg_fault.specs.declared.class.Class.{Class}
@@ -72,6 +72,23 @@ class_index Lapse = 13
 -- the class that has this name
 unfoldable pub class_named : List ℕ → Option ClassName
 class_named text = find (λ name. bytes_eq (class_text name) text) classes
+
+-- the class of a name with the numbers that it has in a sweep
+unfoldable pub swept : ClassName → Class
+swept Script = class.Script 4 (0 ∷ [])
+swept Offset = class.Offset 0 (pos 200)
+swept Bus = class.Bus 1
+swept Plate = class.Plate 1000
+swept Skip = class.Skip 3
+swept Disturb = class.Disturb 3 4096
+swept Flip = class.Flip 3 1
+swept Halt = class.Halt
+swept Timing = class.Timing 99
+swept Wild = class.Wild (65535 ∷ []) (false ∷ [])
+swept Path1Closed = class.Path1Closed
+swept Path2Closed = class.Path2Closed
+swept PathOpen = class.PathOpen 1
+swept Lapse = class.Lapse (0 ∷ []) 0
 
 -- the law: the name of a class is read as that class
 abbrev pub NamesAreRead : Type 0

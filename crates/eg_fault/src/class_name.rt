@@ -1,10 +1,18 @@
-// The classes of faults as campaigns spell them: their names, and their own keys.
-ghost use Rattle.std.specs.Prelude.{◌≡◌, ◌<◌, ◌++◌, OnOk, string_bytes};
-ghost use Rattle.eg_fault.specs.Names.{name_of, class_text, class_index, class_named, own_keys, keys_text};
+// The classes of faults as campaigns spell them, with their names, own keys, and numbers in a sweep.
+ghost use Rattle.std.specs.Prelude.{◌≡◌, ◌<◌, ◌++◌, ◌∷◌, [], false, OnOk, string_bytes};
+ghost use Rattle.eg_fault.specs.Names.{name_of, class_text, class_index, class_named, own_keys, keys_text, swept};
 
 use crate::key::{push_number, push_numbers, push_truths};
-use crate::{Class, FaultKey as Key};
+use crate::{Class, FaultKey as Key, Opens, PATH_1, Script};
+use eg_answer::ACTUAL;
+use eg_sensor::{LOAD_1, PEDAL_1};
 use std::alloc::AllocError;
+
+/// How many classes there are (docs/CONCEPT.md, "Faults").
+pub const CLASSES: usize = 14;
+
+/// How many of them stand before the last, the lapses (docs/CONCEPT.md, "Faults").
+pub const LISTED: usize = 13;
 
 /// A class of faults, without its numbers (docs/FORMATS.md, "Campaign files").
 #[derive(Clone, Copy)]
@@ -27,7 +35,7 @@ pub enum ClassName {
 
 impl ClassName {
     /// The classes in their order.
-    pub const ORDER: [ClassName; 14] = [
+    pub const ORDER: [ClassName; CLASSES] = [
         ClassName::Script,
         ClassName::Offset,
         ClassName::Bus,
@@ -82,7 +90,7 @@ impl ClassName {
     #[tactic(auto, unfolding(crate::specs::Names::class_index))]
     pub fn index(self) -> usize
         ensures index { result ≡ class_index self }
-        ensures within { result < 14 }
+        ensures within { result < CLASSES }
     {
         self as usize
     }
@@ -105,6 +113,64 @@ impl ClassName {
             ClassName::Lapse => &[Key::After, Key::Every],
             ClassName::Halt | ClassName::Path1Closed | ClassName::Path2Closed => &[],
         }
+    }
+
+    /// Its class with the numbers that it has in a sweep (docs/CONCEPT.md, "`sweep`"). It takes no memory.
+    #[tactic(auto, unfolding(crate::specs::Names::swept))]
+    pub fn swept(self) -> Class
+        ensures { result ≡ swept self }
+    {
+        match self {
+            ClassName::Script => Class::Script {
+                track: LOAD_1,
+                values: script_of(0),
+            },
+            ClassName::Offset => Class::Offset {
+                track: PEDAL_1,
+                add: 200,
+            },
+            ClassName::Bus => Class::Bus { mask: 1 },
+            ClassName::Plate => Class::Plate { at: 1000 },
+            ClassName::Skip => Class::Skip { module: ACTUAL },
+            ClassName::Disturb => Class::Disturb {
+                module: ACTUAL,
+                mask: 4096,
+            },
+            ClassName::Flip => Class::Flip { word: 3, mask: 1 },
+            ClassName::Halt => Class::Halt,
+            ClassName::Timing => Class::Timing { offset: 99 },
+            ClassName::Wild => Class::Wild {
+                questions: script_of(65_535),
+                opens: never_open(),
+            },
+            ClassName::Path1Closed => Class::Path1Closed,
+            ClassName::Path2Closed => Class::Path2Closed,
+            ClassName::PathOpen => Class::PathOpen { path: PATH_1 },
+            ClassName::Lapse => Class::Lapse {
+                after: script_of(0),
+                every: 0,
+            },
+        }
+    }
+}
+
+/// The script of this number alone.
+fn script_of(value: u16) -> Script
+    ensures { result ≡ value ∷ [] }
+{
+    match Script::new(&[value]) {
+        Some(script) => script,
+        None => unreachable!(),
+    }
+}
+
+/// The orders of a wild monitoring module that never orders path 2 open.
+fn never_open() -> Opens
+    ensures { result ≡ false ∷ [] }
+{
+    match Opens::new(&[false]) {
+        Some(opens) => opens,
+        None => unreachable!(),
     }
 }
 

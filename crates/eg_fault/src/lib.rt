@@ -3,7 +3,6 @@
 #![tactic(auto)]
 
 mod class;
-mod class_effects;
 mod class_name;
 mod effects;
 mod key;
@@ -13,7 +12,7 @@ mod runs;
 mod script;
 
 pub use class::{Class, Fault};
-pub use class_name::ClassName;
+pub use class_name::{CLASSES, ClassName, LISTED};
 pub use effects::{
     conducts, fault_of_levels, faulty_contacts, faulty_readings, flip, held, level1_runs,
     module_runs, sends, wild,

@@ -1,19 +1,19 @@
 -- No cut without a watch, by the ticks and the rows of a history in which the engine is driven.
-use Rattle.std.proofs.Common.{◌≡◌, ◌∙◌, refl, sym, ap, subst, ℕ, zero, suc, ◌+◌, ◌-◌, ◌≤◌, Bool, true, false, ◌&&◌, ◌||◌, List, [], ◌∷◌, length, inl, inr, Option, Some, None, max, arith}
-use Rattle.std.specs.Prelude.{IsTrue, Contains, slice_index_or, ◌%◌}
+use Rattle.std.proofs.Common.{◌≡◌, ◌∙◌, refl, sym, ap, subst, ℕ, ◌+◌, ◌-◌, ◌≤◌, Bool, true, false, ◌&&◌, ◌||◌, List, [], ◌∷◌, length, inl, inr, Option, Some, None, max, arith}
+use Rattle.std.specs.Prelude.{IsTrue, Contains}
 use Rattle.std.specs.List.{list_any}
-use Rattle.std.proofs.lemmas.Bool.{or_cases, or_left, or_right, or_parts, and_from, and_parts, and_right, le-leb, true≢false}
+use Rattle.std.proofs.lemmas.Bool.{or_cases, or_left, or_right, and_from, and_parts, and_right, le-leb, true≢false}
 use Rattle.eg_num.specs.declared.watches.Watches.{Watches}
 use Rattle.eg_answer.specs.Times.{reaction_of}
 use Rattle.eg_answer.specs.declared.modules.TheConstants.{REACT}
 use Rattle.eg_values.specs.Calibration.{IsAccepted}
-use Rattle.eg_fault.specs.Effects.{Effects, no_effects}
-use Rattle.eg_fault.specs.Faults.{effects_of, effects, truth_in_turn, IsNoneOrValid}
+use Rattle.eg_fault.specs.Faults.{effects, opens_path, IsNoneOrValid}
 use Rattle.eg_fault.specs.declared.class.Class.{Class}
-use Rattle.eg_fault.specs.declared.class.Class.TheVariants.{Wild, PathOpen}
+use Rattle.eg_fault.specs.declared.class.Class.TheVariants.{Skip, Disturb, Halt}
 use Rattle.eg_fault.specs.declared.class.Fault.{Fault}
 use Rattle.eg_fault.specs.declared.paths.TheConstants.{PATH_1, PATH_2}
 use Rattle.eg_fault.proofs.ActingLemmas.{at_tick}
+use Rattle.eg_fault.proofs.ClassLemmas.{OpensNothing, opens_nothing_plain, opens_nothing_class}
 use Rattle.eg_record.specs.declared.row.Row.{Row}
 use Rattle.eg_record.specs.declared.watch.Watch.{Watch}
 use Rattle.eg_record.specs.declared.watch.Watch.TheVariants as watch
@@ -26,7 +26,7 @@ use Rattle.eg_model.specs.Moments.{moment, moments_of}
 use Rattle.eg_model.specs.Premises.{Follows, is_on_after}
 use Rattle.eg_model.specs.Reaction.{spoils_answers}
 use Rattle.eg_model.specs.Rows.{row_of}
-use Rattle.eg_laws.specs.Findings.{cutting, Finds, opens_path, opens_by_itself, FindsBeforeOff, FindsFromOnset}
+use Rattle.eg_laws.specs.Findings.{cutting, Finds, opens_by_itself, FindsBeforeOff, FindsFromOnset}
 use Rattle.eg_model.proofs.TickLemmas.{Each, length-moments, moment-orders, tripped-cons, fields}
 use Rattle.eg_model.proofs.TripLemmas.{latch1-cons}
 use Rattle.eg_model.proofs.ClassLemmas.{of_history}
@@ -35,29 +35,7 @@ use Rattle.eg_model.proofs.SpanLaws.{reaction_least, onset_off}
 
 -- ---- faults that open no path ----
 
--- a path whose latch isn't open conducts, and nothing orders path 2 open
-pub record OpensNothing (x : Effects) : Type 0 where
-  pub path_1 : x.conducts PATH_1 false ≡ true
-  pub path_2 : x.conducts PATH_2 false ≡ true
-  pub orders : x.opens ≡ false
-
-opens_nothing_plain : OpensNothing no_effects
-unfolding no_effects
-opens_nothing_plain = record { path_1 = refl; path_2 = refl; orders = refl }
-
-never_in_turn : (opens : List Bool) (i : ℕ) → list_any (λ order. order) opens ≡ false → slice_index_or opens i false ≡ false
-never_in_turn [] i none = refl
-never_in_turn (o ∷ opens) zero none = (or_parts o (list_any (λ order. order) opens) none).0
-never_in_turn (o ∷ opens) (suc i) none = never_in_turn opens i (or_parts o (list_any (λ order. order) opens) none).1
-
-opens_nothing_class : (class : Class) (k : ℕ) → opens_path class ≡ false → OpensNothing (effects_of class k)
-unfolding opens_path effects_of no_effects truth_in_turn
-opens_nothing_class (Wild questions opens) k none =
-    record { path_1 = refl; path_2 = refl; orders = never_in_turn opens (k % length opens) none }
-opens_nothing_class (PathOpen path) k none = absurd (true≢false none)
-opens_nothing_class _ k none = record { path_1 = refl; path_2 = refl; orders = refl }
-
--- so it is up to each tick by which no fault that opens a path has begun
+-- up to each tick by which no fault that opens a path has begun nothing opens one
 opens_nothing : (fault : Option Fault) (tick : ℕ) → opens_by_itself fault tick ≡ false → (t : ℕ) → t ≤ tick →
     OpensNothing (effects fault t)
 unfolding opens_by_itself
@@ -233,9 +211,10 @@ find_before_off s start h follows later before row e off spared = subst (Finds c
 
 spoiling_opens_none : (class : Class) → spoils_answers class ≡ true → opens_path class ≡ false
 unfolding spoils_answers opens_path
-spoiling_opens_none (Wild questions opens) e = absurd (true≢false (sym e))
-spoiling_opens_none (PathOpen path) e = absurd (true≢false (sym e))
-spoiling_opens_none _ e = refl
+spoiling_opens_none (Skip index) e = refl
+spoiling_opens_none (Disturb index mask) e = refl
+spoiling_opens_none Halt e = refl
+spoiling_opens_none _ e = absurd (true≢false (sym e))
 
 -- a history that ends R ticks from the onset or later: the stages would be off at a tick more
 found_in_time : (s : Setting) (start : ℕ) (fault : Fault) → s.fault ≡ Some fault → IsAccepted s.cal → IsNoneOrValid s.fault →

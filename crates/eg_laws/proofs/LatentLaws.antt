@@ -17,8 +17,9 @@ use Rattle.eg_values.specs.Calibration.{CalibrationParts, IsAccepted}
 use Rattle.eg_fault.specs.Effects.{Effects, no_effects, readings_under, contacts_under}
 use Rattle.eg_fault.specs.Faults.{effects_of, effects, is_lapse, IsValid, IsListed}
 use Rattle.eg_fault.specs.Classes.{may_change_answers}
+use Rattle.eg_fault.specs.Running.{may_change_levels}
 use Rattle.eg_fault.specs.declared.class.Class.{Class}
-use Rattle.eg_fault.specs.declared.class.Class.TheVariants.{Lapse, Plate, Wild, Path1Closed, Path2Closed, PathOpen}
+use Rattle.eg_fault.specs.declared.class.Class.TheVariants.{Skip, Disturb, Halt, Timing, Wild, Lapse}
 use Rattle.eg_fault.specs.declared.class.Fault.{Fault}
 use Rattle.eg_fault.proofs.ActingLemmas.{of_class, before_onset, from_onset}
 use Rattle.eg_model.specs.History.{Setting, Entry, Tick, Drive, Moment}
@@ -137,13 +138,9 @@ module _ (cal : CalibrationParts) (accepted : IsAccepted cal) (e : Entry) (comes
 -- ---- classes that leave readings alone ----
 
 always-leaves : (class : Class) → always_hides class ≡ true → leaves_readings class ≡ true
-unfolding always_hides leaves_readings
-always-leaves (Plate at) is = refl
-always-leaves (Wild questions opens) is = refl
-always-leaves Path1Closed is = refl
-always-leaves Path2Closed is = refl
-always-leaves (PathOpen path) is = refl
-always-leaves _ is = absurd (false≢true is)
+unfolding always_hides
+always-leaves (Timing offset) is = absurd (false≢true is)
+always-leaves _ is = is
 
 -- where no answers are found at any tick
 pub answers_of : (s : Setting) (h : List Tick) → GiveNothing s.cal h → Follows s.fault 0 h →
@@ -206,13 +203,14 @@ pub record SparesAll (class : Class) : Type 0 where
   pub spoils : spoils_answers class ≡ false
 
 wild_or_not : (class : Class) → always_hides class ≡ true → ((k : ℕ) → is_some (effects_of class k).wild ≡ true) ⊎ SparesAll class
-unfolding always_hides is_lapse may_change_answers spoils_answers effects_of no_effects
+unfolding always_hides leaves_readings may_change_levels is_lapse may_change_answers spoils_answers effects_of no_effects
 wild_or_not (Wild questions opens) is = inl (λ k. refl)
-wild_or_not (Plate at) is = inr (record { listed = refl; spares = refl; spoils = refl })
-wild_or_not Path1Closed is = inr (record { listed = refl; spares = refl; spoils = refl })
-wild_or_not Path2Closed is = inr (record { listed = refl; spares = refl; spoils = refl })
-wild_or_not (PathOpen path) is = inr (record { listed = refl; spares = refl; spoils = refl })
-wild_or_not _ is = absurd (false≢true is)
+wild_or_not (Timing offset) is = absurd (false≢true is)
+wild_or_not (Skip index) is = absurd (false≢true is)
+wild_or_not (Disturb index mask) is = absurd (false≢true is)
+wild_or_not Halt is = absurd (false≢true is)
+wild_or_not (Lapse after every) is = absurd (false≢true is)
+wild_or_not _ is = inr (record { listed = refl; spares = refl; spoils = refl })
 
 pub answers_spared : (s : Setting) → IsAccepted s.cal → (f : Fault) → IsValid f → s.fault ≡ Some f → SparesAll f.class →
     (x : Tick) (h : List Tick) → GiveNothing s.cal (x ∷ h) → Follows s.fault 0 (x ∷ h) →

@@ -16,6 +16,7 @@ use Rattle.eg_answer.specs.declared.marks.Verdict.TheVariants.{Right, Wrong}
 use Rattle.eg_values.specs.Calibration.{IsAccepted}
 use Rattle.eg_fault.specs.Effects.{no_effects, sends_in, sends_at}
 use Rattle.eg_fault.specs.Faults.{effects_of, effects}
+use Rattle.eg_fault.specs.Running.{may_change_levels}
 use Rattle.eg_fault.specs.declared.class.Class.TheVariants.{Timing}
 use Rattle.eg_fault.specs.declared.class.Fault.{Fault}
 use Rattle.eg_fault.proofs.ActingLemmas.{of_class, before_onset, from_onset}
@@ -441,7 +442,7 @@ module _ {E : Type 0} {b : BenchEngine E} {Keeps : PlantParts → E → Type 0} 
       each : GiveNothing cal h
       each = each_tick (Comes loud) (GivesNothing cal) s (λ e t comes. gives_alike cal accepted e comes (effects (Some f) t)
           (of_class (λ x. ActAlike x no_effects) f act_plain
-          (λ k. act_class (Timing offset) k (unfold leaves_readings in refl)) t)) entries come
+          (λ k. act_class (Timing offset) k (unfold leaves_readings may_change_levels in refl)) t)) entries come
 
       judged : Each (λ x. x.effects.wild ≡ None) h
       judged = each_tick (Comes loud) (λ x. x.effects.wild ≡ None) s (λ e t comes. of_class (λ x. x.wild ≡ None) f

@@ -10,7 +10,7 @@ use Rattle.eg_answer.specs.declared.marks.AnswerMark.TheVariants.{Absent, Good, 
 use Rattle.eg_answer.specs.declared.marks.Verdict.TheVariants.{Right, Wrong}
 use Rattle.eg_values.specs.Calibration.{IsAccepted}
 use Rattle.eg_fault.specs.Effects.{Effects, no_effects, sends_in, sends_at}
-use Rattle.eg_fault.specs.Faults.{effects_of, effects}
+use Rattle.eg_fault.specs.Faults.{effects_of, effects, opens_path}
 use Rattle.eg_fault.specs.Classes.{closes}
 use Rattle.eg_fault.specs.declared.class.Class.{Class}
 use Rattle.eg_fault.specs.declared.class.Class.TheVariants.{Timing}
@@ -24,7 +24,7 @@ use Rattle.eg_model.specs.Answers.{is_sent, mark_at, with_answer, answers_in}
 use Rattle.eg_model.specs.Paths.{latch2}
 use Rattle.eg_model.specs.Moments.{moment, moments_of}
 use Rattle.eg_model.specs.Premises.{Follows, is_on_after}
-use Rattle.eg_laws.specs.Findings.{cutting, Finds, opens_path, opens_by_itself}
+use Rattle.eg_laws.specs.Findings.{cutting, Finds, opens_by_itself}
 use Rattle.eg_laws.specs.Coverage.{sends_outside, IsCutInTime, MovedAreCut}
 use Rattle.eg_model.proofs.PeriodLemmas.{at_place, period_closes, period_open, period_room, counts_from, enough_periods}
 use Rattle.eg_model.proofs.TickLemmas.{length-moments, fields}

@@ -13,6 +13,7 @@ use Rattle.eg_answer.specs.declared.modules.TheConstants.{REACT}
 use Rattle.eg_values.specs.Calibration.{CalibrationParts, IsAccepted}
 use Rattle.eg_fault.specs.Effects.{Effects, no_effects, readings_under, contacts_under}
 use Rattle.eg_fault.specs.Faults.{effects_of, effects}
+use Rattle.eg_fault.specs.Running.{may_change_levels}
 use Rattle.eg_fault.specs.declared.class.Class.{Class}
 use Rattle.eg_fault.specs.declared.class.Class.TheVariants.{Script, Offset, Bus, Skip, Disturb, Flip, Halt, Lapse}
 use Rattle.eg_fault.specs.declared.class.Fault.{Fault}
@@ -52,7 +53,7 @@ pub record ActAlike (x y : Effects) : Type 0 where
   pub flip : x.flip ≡ y.flip
 
 pub act_class : (class : Class) (k : ℕ) → leaves_readings class ≡ true → ActAlike (effects_of class k) no_effects
-unfolding effects_of no_effects leaves_readings
+unfolding effects_of no_effects leaves_readings may_change_levels
 act_class (Script track values) k is = absurd (false≢true is)
 act_class (Offset track add) k is = absurd (false≢true is)
 act_class (Bus mask) k is = absurd (false≢true is)

@@ -1,18 +1,17 @@
 -- The rows of a record show its run.
-use Rattle.std.proofs.Common.{◌≡◌, ◌∙◌, refl, sym, ap, ap₂, subst, ℕ, zero, suc, ◌≤◌, ◌==◌, Bool, true, false, not, ◌&&◌, List, [], ◌∷◌, All, map, reverse, take, length, slice_index_or, ◌||◌, Option, if◌then◌else◌, arith}
+use Rattle.std.proofs.Common.{◌≡◌, ◌∙◌, refl, sym, ap, ap₂, subst, ℕ, zero, suc, ◌≤◌, ◌==◌, Bool, true, false, ◌&&◌, List, [], ◌∷◌, All, map, reverse, take, length, slice_index_or, ◌||◌, Option, if◌then◌else◌, arith}
 use Rattle.std.proofs.Math.Seq.{take-suc, take-length}
-use Rattle.std.proofs.lemmas.Bool.{false≢true, ne_eqb, or_right, and_right, false_from_ne_true}
+use Rattle.std.proofs.lemmas.Bool.{false≢true, ne_eqb, false_from_ne_true}
 use Rattle.std.proofs.lemmas.List.{reverse-append}
 use Rattle.std.proofs.lemmas.List.Elements.{All-nil, All-cons}
 use Rattle.eg_num.specs.Drive.{DriveRow}
 use Rattle.eg_torque.specs.Ramp.{ramped}
-use Rattle.eg_fault.specs.declared.class.Class.{Class}
-use Rattle.eg_fault.specs.declared.class.Class.TheVariants.{Path1Closed, Path2Closed, PathOpen}
 use Rattle.eg_fault.specs.declared.class.Fault.{Fault}
 use Rattle.eg_fault.specs.declared.paths.TheConstants.{PATH_1, PATH_2}
-use Rattle.eg_fault.specs.Effects.{Effects, no_effects}
-use Rattle.eg_fault.specs.Faults.{effects_of, effects}
+use Rattle.eg_fault.specs.Effects.{no_effects}
+use Rattle.eg_fault.specs.Faults.{effects}
 use Rattle.eg_fault.proofs.ActingLemmas.{of_all}
+use Rattle.eg_fault.proofs.ClassLemmas.{ConductsMore, more_class}
 use Rattle.eg_record.specs.declared.row.Row.{Row}
 use Rattle.eg_word.specs.World.{World, new_world}
 use Rattle.eg_model.specs.History.{Setting, Entry, drives, Moment}
@@ -67,17 +66,7 @@ no_torque s [] proper = All-nil HasNoTorque
 no_torque s (e ∷ h) proper = All-cons HasNoTorque (row_of (length (moments s h)) (next_after s e (moments s h))) (rows_of (moments s h))
     proper.0.no_torque (no_torque s h proper.1)
 
--- what conducts with its latch open conducts with it closed, under every fault
-abbrev ConductsMore : Effects → Type 0
-ConductsMore x = (path : ℕ) → x.conducts path true ≡ true → x.conducts path false ≡ true
-
-more_class : (class : Class) (k : ℕ) → ConductsMore (effects_of class k)
-unfolding effects_of no_effects
-more_class Path1Closed k path is = or_right (path == PATH_1) true refl
-more_class Path2Closed k path is = or_right (path == PATH_2) true refl
-more_class (PathOpen other) k path is = absurd (false≢true (sym (and_right (not (path == other)) false refl) ∙ is))
-more_class _ k path is = refl
-
+-- under every fault what conducts with its latch open conducts with it closed
 conducts_more : (fault : Option Fault) (tick : ℕ) → ConductsMore (effects fault tick)
 unfolding no_effects
 conducts_more fault tick = of_all ConductsMore (λ path is. refl) more_class fault tick

@@ -2,12 +2,11 @@
 -- and what spoils the answers is found in time. In a test span that failed `start` was found. So there is no
 -- cut without a watch, and the report names one. Rows stand newest first.
 use Rattle.std.specs.Prelude.{◌≡◌, ℕ, ◌+◌, ◌<◌, ◌==◌, Bool, true, false, ◌&&◌, max, nat_le, IsTrue, List, [], ◌∷◌, ◌++◌, All, Contains, length, map, Option, Some, None, IfSome}
-use Rattle.std.specs.List.{list_any}
 use Rattle.eg_num.specs.Windows.{WeightParts, is_confirmed, is_first}
 use Rattle.eg_answer.specs.Times.{reaction_of}
-use Rattle.eg_fault.specs.Faults.{IsNoneOrValid}
+use Rattle.eg_fault.specs.Faults.{IsNoneOrValid, opens_path}
 use Rattle.eg_fault.specs.declared.class.Class.{Class}
-use Rattle.eg_fault.specs.declared.class.Class.TheVariants.{Flip, Wild, PathOpen}
+use Rattle.eg_fault.specs.declared.class.Class.TheVariants.{Flip}
 use Rattle.eg_fault.specs.declared.class.Fault.{Fault}
 use Rattle.eg_record.specs.declared.row.Row.{Row}
 use Rattle.eg_record.specs.declared.watch.Watch.{Watch}
@@ -36,14 +35,7 @@ pub record Finds (which : List Watch) (rows : List Row) : Type 0 where
   pub is_one : Contains which watch
   pub found : IsTrue (is_found row.found watch)
 
--- the classes that open a shut-off path by themselves: that of a path that doesn't conduct, and that of a
--- wild monitoring module whose list has an order to open path 2, whether or not its turn comes
-unfoldable pub opens_path : Class → Bool
-opens_path (PathOpen path) = true
-opens_path (Wild questions opens) = list_any (λ order. order) opens
-opens_path _ = false
-
--- a fault of such a class has begun by a tick
+-- a fault of a class that opens a shut-off path by itself has begun by a tick
 unfoldable pub opens_by_itself : Option Fault → ℕ → Bool
 opens_by_itself None tick = false
 opens_by_itself (Some fault) tick = nat_le fault.onset tick && opens_path fault.class

@@ -9,7 +9,7 @@ use Rattle.eg_answer.specs.Periods.{place_of}
 use Rattle.eg_values.specs.Calibration.{CalibrationParts, IsAccepted}
 use Rattle.eg_fault.specs.Faults.{IsValid}
 use Rattle.eg_fault.specs.declared.class.Class.{Class}
-use Rattle.eg_fault.specs.declared.class.Class.TheVariants.{Script, Offset, Bus, Lapse, Timing, Plate, Wild, Path1Closed, Path2Closed, PathOpen}
+use Rattle.eg_fault.specs.declared.class.Class.TheVariants.{Script, Offset, Bus, Lapse, Timing}
 use Rattle.eg_fault.specs.declared.class.Fault.{Fault}
 use Rattle.eg_record.specs.declared.row.Row.{Row}
 use Rattle.eg_record.specs.declared.watch.Watch.{Watch}
@@ -20,6 +20,7 @@ use Rattle.eg_model.specs.Rows.{record_rows}
 use Rattle.eg_model.specs.Records.{IsRun}
 use Rattle.eg_model.specs.Lapses.{IsLapse}
 use Rattle.eg_laws.specs.Availability.{MissesAreSpaced}
+use Rattle.eg_laws.specs.SharpUnder.{leaves_readings}
 
 -- no watch is found at a row
 abbrev pub FindsNothing : Row → Type 0
@@ -47,12 +48,8 @@ CanStayHidden b cal fault = (n : ℕ) → HiddenRun b cal fault n
 -- The classes that leave alone what level 2 reads and does, and when answers come: a plate that is held, a
 -- monitoring module that is wild, whatever it asks and orders, and those of the shut-off paths.
 unfoldable pub always_hides : Class → Bool
-always_hides (Plate at) = true
-always_hides (Wild questions opens) = true
-always_hides Path1Closed = true
-always_hides Path2Closed = true
-always_hides (PathOpen path) = true
-always_hides _ = false
+always_hides (Timing offset) = false
+always_hides other = leaves_readings other
 
 -- each valid fault of these classes can stay hidden
 abbrev pub ReadingsApartHide : {E : Type 0} → BenchEngine E → Type 0

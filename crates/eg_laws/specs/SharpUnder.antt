@@ -2,11 +2,12 @@
 -- as sharp as without a fault, in each drive span and at each tick, before the onset and after it: it is
 -- found exactly as the full-efficiency excess is first confirmed, and the latch of path 1 is open from the
 -- next tick on. Rows stand newest first.
-use Rattle.std.specs.Prelude.{◌≡◌, ℕ, Bool, true, false, List, ◌∷◌, ◌++◌, map, Option, IfSome}
+use Rattle.std.specs.Prelude.{◌≡◌, ℕ, Bool, true, false, not, List, ◌∷◌, ◌++◌, map, Option, IfSome}
 use Rattle.eg_num.specs.Windows.{WeightParts, is_confirmed, is_first}
 use Rattle.eg_fault.specs.Faults.{effects, IsNoneOrValid}
+use Rattle.eg_fault.specs.Running.{may_change_levels}
 use Rattle.eg_fault.specs.declared.class.Class.{Class}
-use Rattle.eg_fault.specs.declared.class.Class.TheVariants.{Plate, Timing, Wild, Path1Closed, Path2Closed, PathOpen}
+use Rattle.eg_fault.specs.declared.class.Class.TheVariants.{Script, Offset, Bus}
 use Rattle.eg_fault.specs.declared.class.Fault.{Fault}
 use Rattle.eg_fault.specs.declared.paths.TheConstants.{PATH_1}
 use Rattle.eg_record.specs.declared.row.Row.{Row}
@@ -22,13 +23,10 @@ use Rattle.eg_laws.specs.Availability.{trips}
 -- without a fault. (They act on the plate, on when answers are sent, on the monitoring module, and on the
 -- shut-off paths.)
 unfoldable pub leaves_readings : Class → Bool
-leaves_readings (Plate at) = true
-leaves_readings (Timing offset) = true
-leaves_readings (Wild questions opens) = true
-leaves_readings Path1Closed = true
-leaves_readings Path2Closed = true
-leaves_readings (PathOpen path) = true
-leaves_readings _ = false
+leaves_readings (Script track values) = false
+leaves_readings (Offset track add) = false
+leaves_readings (Bus mask) = false
+leaves_readings other = not (may_change_levels other)
 
 -- no fault, or one of such a class
 abbrev pub SparesReadings : Option Fault → Type 0

@@ -3,10 +3,11 @@ use Rattle.std.proofs.Common.{◌≡◌, true, false, [], ◌∷◌, ◌++◌, m
 use Rattle.eg_answer.specs.declared.marks.AnswerMark.TheVariants.{Good, Bad}
 use Rattle.eg_answer.specs.declared.marks.Verdict.TheVariants.{Right, Wrong}
 use Rattle.eg_fault.specs.declared.class.Class.TheVariants.{Plate, Skip, Flip, Halt, Wild, Path2Closed, PathOpen, Lapse}
+use Rattle.eg_fault.specs.Faults.{opens_path}
 use Rattle.eg_record.specs.declared.watch.Watch.TheVariants as found
 use Rattle.eg_model.specs.Rows.{signal_list}
 use Rattle.eg_model.specs.Examples.{idle, full, fault_from, bench_run, pressed_run, offset_run, disturbed_raise_run, moments_in_time, answers_of, verdicts_of, stages_of, report_on, reported}
-use Rattle.eg_laws.specs.Findings.{opens_path, opens_by_itself, is_flip, flips_at}
+use Rattle.eg_laws.specs.Findings.{opens_by_itself, is_flip, flips_at}
 use Rattle.eg_model.proofs.WholeModel.{whole_model}
 
 -- ---- it limits the pedal, once it is found ----

@@ -9,8 +9,8 @@ use Rattle.std.proofs.lemmas.Bool.Decides.{nat_tests}
 use Rattle.eg_fault.specs.declared.class.Class.{Class}
 use Rattle.eg_fault.specs.declared.class.Class.TheVariants.{Lapse}
 use Rattle.eg_fault.specs.declared.class.Fault.{Fault}
-use Rattle.eg_fault.specs.Faults.{is_lapse, is_left_out}
-use Rattle.eg_table.specs.Acting.{has_effect, acts_at, acts_within}
+use Rattle.eg_fault.specs.Faults.{has_effect, is_lapse, is_left_out}
+use Rattle.eg_table.specs.Acting.{acts_at, acts_within}
 use Rattle.eg_table.proofs.CountLemmas.{some_below, which_below, either_test, no_test}
 
 -- ---- lapses ----

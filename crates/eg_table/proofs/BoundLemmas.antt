@@ -8,6 +8,7 @@ use Rattle.eg_fault.specs.declared.class.Class.{Class}
 use Rattle.eg_fault.specs.declared.class.Class.TheVariants.{Lapse}
 use Rattle.eg_fault.specs.declared.class.Fault.{Fault}
 use Rattle.eg_fault.specs.declared.class_name.ClassName.{ClassName}
+use Rattle.eg_fault.specs.declared.class_name.ClassName.TheVariants as name
 use Rattle.eg_fault.specs.Faults.{IsListed, is_lapse}
 use Rattle.eg_fault.specs.Names.{name_of, class_index, classes}
 use Rattle.eg_record.specs.declared.facts.Facts.{Facts}
@@ -20,7 +21,7 @@ use Rattle.eg_table.proofs.GreatestLemmas.{greatest-within}
 use Rattle.eg_table.proofs.ListedLemmas.{swept_listed}
 
 -- a class that stands before the last isn't a lapse
-no_lapse : (class : Class) → class_index (name_of class) < 13 → is_lapse class ≡ false
+no_lapse : (class : Class) → class_index (name_of class) < (class_index name.Lapse) → is_lapse class ≡ false
 unfolding name_of class_index is_lapse
 no_lapse (Lapse after every) early = absurd (omega arith)
 no_lapse _ early = refl
@@ -58,21 +59,21 @@ Within : ℕ → SweepRow → Type 0
 Within bound row = IfSome row.reaction (λ n. n ≤ bound)
 
 -- the rows before the last are those of the classes before the last
-earlier_rows : (runs : List (Fault × Facts)) → take 13 (class_rows runs) ≡ map (λ class. row_of (facts_under class runs)) (take 13 classes)
-unfolding class_rows
+earlier_rows : (runs : List (Fault × Facts)) → take (class_index name.Lapse) (class_rows runs) ≡ map (λ class. row_of (facts_under class runs)) (take (class_index name.Lapse) classes)
+unfolding class_rows class_index
 earlier_rows runs = refl
 
-earlier_classes : All (λ class. class_index class < 13) (take 13 classes)
+earlier_classes : All (λ class. class_index class < (class_index name.Lapse)) (take (class_index name.Lapse) classes)
 unfolding class_index
 earlier_classes = search (arith, All-cons, All-nil) depth 40
 
 rows-within : (bound : ℕ) (runs : List (Fault × Facts)) →
-    All (λ run. is_lapse run.0.class ≡ false → ReactsIn bound run.1) runs → All (Within bound) (take 13 (class_rows runs))
+    All (λ run. is_lapse run.0.class ≡ false → ReactsIn bound run.1) runs → All (Within bound) (take (class_index name.Lapse) (class_rows runs))
 unfolding Within
 rows-within bound runs each = subst (All (λ row. IfSome row.reaction (λ n. n ≤ bound))) (sym (earlier_rows runs))
-    (All-map (λ row. IfSome row.reaction (λ n. n ≤ bound)) (λ class. row_of (facts_under class runs)) (take 13 classes)
+    (All-map (λ row. IfSome row.reaction (λ n. n ≤ bound)) (λ class. row_of (facts_under class runs)) (take (class_index name.Lapse) classes)
     (λ k d below. row-within bound _ (under_all (ReactsIn bound) _ runs
-    (λ j run within same. each j run within (no_lapse _ (subst (λ n. n < 13) (sym same) (earlier_classes k d below)))))))
+    (λ j run within same. each j run within (no_lapse _ (subst (λ n. n < (class_index name.Lapse)) (sym same) (earlier_classes k d below)))))))
 
 pub table_bounded : (ticks step bound : ℕ) (facts : Fault → Facts) → ticks ≤ 20000 → 1 ≤ step →
     All (λ fault. IsListed (Some fault) → ReactsIn bound (facts fault)) (swept_faults ticks step) →
@@ -87,5 +88,5 @@ table_bounded ticks step bound facts most some react =
     let rows = rows-within bound runs each in
     record {
       each = rows;
-      greatest = greatest-within (λ row. row.reaction) (take 13 (class_rows runs)) bound rows;
+      greatest = greatest-within (λ row. row.reaction) (take (class_index name.Lapse) (class_rows runs)) bound rows;
     }

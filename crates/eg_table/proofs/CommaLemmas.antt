@@ -6,15 +6,14 @@ use Rattle.std.specs.List.{AllByRecursion, concat}
 use Rattle.std.proofs.Math.Nat.{mod-lt}
 use Rattle.std.proofs.lemmas.Bool.{and_from, ne_eqb}
 use Rattle.std.proofs.lemmas.Fmt.{decimal_by_steps}
-use Rattle.std.proofs.lemmas.List.Elements.{All-head, All-tail, All-weaker}
+use Rattle.std.proofs.lemmas.List.Elements.{All-head, All-tail}
 use Rattle.std.proofs.lemmas.List.Folds.{list_all-append}
-use Rattle.eg_fault.specs.declared.class.Class.{Class}
-use Rattle.eg_fault.specs.declared.class.Class.TheVariants.{Script, Offset, Bus, Plate, Skip, Disturb, Flip, Halt, Timing, Wild, Path1Closed, Path2Closed, PathOpen, Lapse}
 use Rattle.eg_fault.specs.declared.key.FaultKey.{FaultKey}
 use Rattle.eg_fault.specs.declared.key.FaultKey.TheVariants.{Track}
-use Rattle.eg_fault.specs.Faults.{IsOffset, IsValidClass}
+use Rattle.eg_fault.specs.Faults.{IsOffset}
 use Rattle.eg_fault.specs.Names.{key_text, Held, held, number_item, number_items, truth_item, truth_items, item_text, items_text}
 use Rattle.eg_fault.specs.Names as it
+use Rattle.eg_fault.proofs.ClassLemmas.{IsSmall, held-small}
 use Rattle.eg_table.specs.Laws.{has_no_comma, KeysHaveNoComma}
 
 abbrev Plain : List ℕ → Type 0
@@ -66,13 +65,6 @@ unfolding has_no_comma
 key Track = refl
 key _ = refl
 
--- no number is more than a word
-abbrev IsSmall : FaultKey × Held → Type 0
-IsSmall (key, it.number n) = n ≤ 65535
-IsSmall (key, it.shift add) = IsOffset add
-IsSmall (key, it.numbers ns) = All (λ n. n ≤ 65535) ns
-IsSmall (key, it.truths bs) = Unit {0}
-
 -- with a blank behind
 blank : (text : List ℕ) → Plain text → Plain (text ++ codes " ")
 blank text plain = both text (codes " ") plain (unfold has_no_comma in refl)
@@ -89,24 +81,6 @@ items [] small = unfold has_no_comma in refl
 items (one ∷ []) small = item one small.0
 items (one ∷ next ∷ more) small =
     both (item_text one ++ codes " ") (items_text (next ∷ more)) (blank (item_text one) (item one small.0)) (items (next ∷ more) small.1)
-
-held-small : (class : Class) → IsValidClass class → AllByRecursion IsSmall (held class)
-unfolding held IsValidClass
-held-small (Script track values) valid = ((let low = valid.0 in omega (arith, low)), (valid.2, tt))
-held-small (Offset track add) valid = ((let low = valid.0 in omega (arith, low)), (valid.1, tt))
-held-small (Bus mask) valid = (valid.1, tt)
-held-small (Plate at) valid = (omega (arith, valid), tt)
-held-small (Skip index) valid = (omega (arith, valid), tt)
-held-small (Disturb index mask) valid = ((let low = valid.1 in omega (arith, low)), (valid.2.1, tt))
-held-small (Flip word mask) valid = ((let low = valid.0 in omega (arith, low)), (valid.1.1, tt))
-held-small Halt valid = tt
-held-small (Timing offset) valid = (omega (arith, valid), tt)
-held-small (Wild questions opens) valid = (valid.1, (tt, tt))
-held-small Path1Closed valid = tt
-held-small Path2Closed valid = tt
-held-small (PathOpen path) valid = ((let low = valid.1 in omega (arith, low)), tt)
-held-small (Lapse after every) valid =
-    (All-weaker (λ k. k ≤ 19999) (λ k. k ≤ 65535) (λ k low. omega (arith, low)) after valid.1, ((let few = valid.3 in omega (arith, few)), tt))
 
 pub keys_have_no_comma : KeysHaveNoComma
 keys_have_no_comma class valid = items (held class) (held-small class valid)

@@ -10,6 +10,7 @@ use Rattle.std.proofs.lemmas.List.Elements.{All-nil, All-head, All-tail, All-app
 use Rattle.std.proofs.lemmas.List.FromFn.{length-map-range_with_len, get_or-map-range_with_len, map-range_with_len_more}
 use Rattle.eg_fault.specs.declared.class.Class.{Class}
 use Rattle.eg_fault.specs.declared.class.Fault.{Fault}
+use Rattle.eg_fault.specs.declared.class_name.TheConstants.{CLASSES}
 use Rattle.eg_table.specs.Grid.{swept_classes, onset_count, onsets, faults_of, swept_faults, is_too_large}
 
 -- ---- the onsets ----
@@ -110,14 +111,14 @@ length-faults onsets (class ∷ classes) =
     let others = length-faults onsets classes in
     omega (arith, both, one, others)
 
-pub length-classes : length swept_classes ≡ 14
+pub length-classes : length swept_classes ≡ CLASSES
 unfolding swept_classes
 length-classes = refl
 
-pub length-swept_faults : (ticks step : ℕ) → length (swept_faults ticks step) ≡ 14 * onset_count ticks step
+pub length-swept_faults : (ticks step : ℕ) → length (swept_faults ticks step) ≡ CLASSES * onset_count ticks step
 unfolding swept_faults
 length-swept_faults ticks step = length-faults (onsets ticks step) swept_classes
-    ∙ ap (λ n. n * length (onsets ticks step)) length-classes ∙ ap (λ n. 14 * n) (length-onsets ticks step)
+    ∙ ap (λ n. n * length (onsets ticks step)) length-classes ∙ ap (λ n. CLASSES * n) (length-onsets ticks step)
 
 -- what follows for each fault from its onset and its class
 each_fault : (P : Fault → Type 0) (Begins : ℕ → Type 0) (Does : Class → Type 0) →
@@ -142,9 +143,9 @@ each_swept P Does ticks step some gives acts =
 -- ---- how large a grid is ----
 
 -- one that isn't too large has at most 1,000 runs
-pub small-runs : (ticks step : ℕ) → is_too_large ticks step ≡ false → 14 * onset_count ticks step ≤ 1000
+pub small-runs : (ticks step : ℕ) → is_too_large ticks step ≡ false → CLASSES * onset_count ticks step ≤ 1000
 unfolding is_too_large
-small-runs ticks step small = ltb-false 1000 (14 * onset_count ticks step) (first_false (nat_lt 1000 (14 * onset_count ticks step)) _ small)
+small-runs ticks step small = ltb-false 1000 (CLASSES * onset_count ticks step) (first_false (nat_lt 1000 (CLASSES * onset_count ticks step)) _ small)
   where
     first_false : (a b : Bool) → (a || b) ≡ false → a ≡ false
     first_false true b none = absurd cc

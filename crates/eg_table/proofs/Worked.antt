@@ -4,14 +4,14 @@ use Rattle.std.specs.Prelude.{ℤ, Option}
 use Rattle.std.specs.Fmt.{digits}
 use Rattle.eg_fault.specs.declared.class.Class.{Class}
 use Rattle.eg_fault.specs.declared.class.Class.TheVariants as classes
-use Rattle.eg_fault.specs.Faults.{is_left_out}
+use Rattle.eg_fault.specs.Faults.{has_effect, is_left_out}
 use Rattle.eg_fault.specs.Names.{name_of, class_text, held, number_item, number_items, truth_item, truth_items, items_text, keys_text}
 use Rattle.eg_record.specs.declared.run_facts.RunFacts.{RunFacts}
 use Rattle.eg_record.specs.declared.watch.Watch.TheVariants.{Pedal, Torque}
 use Rattle.eg_record.specs.Reactions.{is_settled, settled_by}
 use Rattle.eg_record.specs.Texts.{bit, trap_name, watch_name}
 use Rattle.eg_word.specs.declared.registers.Trap.TheVariants as traps
-use Rattle.eg_table.specs.Acting.{has_effect, acts_at, acts_within, has_acted}
+use Rattle.eg_table.specs.Acting.{acts_at, acts_within, has_acted}
 use Rattle.eg_record.specs.declared.margins.Margins.{Margins}
 use Rattle.eg_record.specs.Margins.{no_margins}
 use Rattle.eg_table.specs.Margins.{margins_line, pair_columns, surplus_column, weight_columns}

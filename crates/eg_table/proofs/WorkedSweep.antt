@@ -5,7 +5,7 @@ use Rattle.std.specs.Fmt.{digits}
 use Rattle.eg_fault.specs.declared.class.Class.{Class}
 use Rattle.eg_fault.specs.declared.class.Class.TheVariants as classes
 use Rattle.eg_fault.specs.declared.class.Fault.{Fault}
-use Rattle.eg_fault.specs.Names.{name_of, class_text, class_index}
+use Rattle.eg_fault.specs.Names.{name_of, class_text, class_index, swept}
 use Rattle.eg_record.specs.declared.facts.Facts.{Facts}
 use Rattle.eg_record.specs.declared.watch.Watch.{Watch}
 use Rattle.eg_record.specs.declared.watch.Watch.TheVariants.{Pedal, Load, Torque}
@@ -18,7 +18,7 @@ use Rattle.eg_table.specs.SweepTexts.{reaction_text, watch_text, watches_text, s
 
 -- every definition that these need
 unfoldable sweeping : ℕ
-unfolding swept_classes onset_count onsets faults_of swept_faults is_too_large class_index facts_under is_found_first greatest_number row_of class_rows table_of greatest_listed
+unfolding swept swept_classes onset_count onsets faults_of swept_faults is_too_large class_index facts_under is_found_first greatest_number row_of class_rows table_of greatest_listed
     name_of class_text reaction_text watch_text watches_text sweep_line class_line sweep_end sweep_lines sweep_text_of is_watch rank off_from reaction_in watch_name digits
 sweeping = 0
 

@@ -1,18 +1,9 @@
 -- A fault has acted where it has an effect at some tick of the run: a flip at its onset alone, a lapse where
 -- level 2 is left out.
-use Rattle.std.specs.Prelude.{ℕ, ◌-◌, ◌==◌, Bool, true, ◌&&◌, nat_le, Option, Some, None}
+use Rattle.std.specs.Prelude.{ℕ, ◌-◌, Bool, ◌&&◌, nat_le, Option, Some, None}
 use Rattle.std.specs.List.{list_any, range_with_len}
-use Rattle.eg_fault.specs.declared.class.Class.{Class}
-use Rattle.eg_fault.specs.declared.class.Class.TheVariants.{Flip, Lapse}
 use Rattle.eg_fault.specs.declared.class.Fault.{Fault}
-use Rattle.eg_fault.specs.Faults.{is_left_out}
-
--- Whether a class has an effect k ticks after the onset: a flip has one at the onset alone, a lapse at the
--- ticks at which level 2 is left out, and any other class at each tick.
-unfoldable pub has_effect : Class → ℕ → Bool
-has_effect (Flip word mask) k = k == 0
-has_effect (Lapse after every) k = is_left_out after every k
-has_effect _ k = true
+use Rattle.eg_fault.specs.Faults.{has_effect}
 
 -- whether a fault has an effect at a tick: never before its onset, and then as its class does
 unfoldable pub acts_at : Fault → ℕ → Bool

@@ -1,18 +1,16 @@
 -- A sweep has a fault of each of fourteen classes at each multiple of its step below the run's ticks; more
 -- than 1,000 runs or 1,000,000 ticks are too many.
-use Rattle.std.specs.Prelude.{ℕ, ◌*◌, pos, Bool, false, ◌||◌, nat_lt, List, [], ◌∷◌, map}
+use Rattle.std.specs.Prelude.{ℕ, ◌*◌, Bool, ◌||◌, nat_lt, List, map}
 use Rattle.std.specs.List.{flat_map, range_with_len}
 use Rattle.std.specs.Int.{div_ceil}
 use Rattle.eg_fault.specs.declared.class.Class.{Class}
-use Rattle.eg_fault.specs.declared.class.Class.TheVariants.{Script, Offset, Bus, Plate, Skip, Disturb, Flip, Halt, Timing, Wild, Path1Closed, Path2Closed, PathOpen, Lapse}
 use Rattle.eg_fault.specs.declared.class.Fault.{Fault}
+use Rattle.eg_fault.specs.declared.class_name.TheConstants.{CLASSES}
+use Rattle.eg_fault.specs.Names.{classes, swept}
 
 -- the fourteen classes in their order, each with the numbers that it has in a sweep
 unfoldable pub swept_classes : List Class
-swept_classes =
-    Script 4 (0 ∷ []) ∷ Offset 0 (pos 200) ∷ Bus 1 ∷ Plate 1000 ∷ Skip 3 ∷ Disturb 3 4096 ∷ Flip 3 1 ∷ Halt
-    ∷ Timing 99 ∷ Wild (65535 ∷ []) (false ∷ []) ∷ Path1Closed ∷ Path2Closed ∷ PathOpen 1
-    ∷ Lapse (0 ∷ []) 0 ∷ []
+swept_classes = map swept classes
 
 -- how many multiples of `step` there are below `ticks`
 unfoldable pub onset_count : (ticks step : ℕ) → ℕ
@@ -33,4 +31,4 @@ swept_faults ticks step = flat_map (faults_of (onsets ticks step)) swept_classes
 -- a grid is too large where it has more than 1,000 runs, or more than 1,000,000 ticks in all
 unfoldable pub is_too_large : (ticks step : ℕ) → Bool
 is_too_large ticks step =
-    let runs = 14 * onset_count ticks step in nat_lt 1000 runs || nat_lt 1000000 (runs * ticks)
+    let runs = CLASSES * onset_count ticks step in nat_lt 1000 runs || nat_lt 1000000 (runs * ticks)

@@ -5,9 +5,9 @@ use Rattle.std.specs.List.{list_all}
 use Rattle.eg_fault.specs.Effects.{no_effects}
 use Rattle.eg_fault.specs.declared.class.Class.{Class}
 use Rattle.eg_fault.specs.declared.class.Fault.{Fault}
-use Rattle.eg_fault.specs.Faults.{effects_of, effects, IsValid, IsValidClass}
+use Rattle.eg_fault.specs.Faults.{effects_of, effects, has_effect, IsValid, IsValidClass}
 use Rattle.eg_fault.specs.Names.{keys_text}
-use Rattle.eg_table.specs.Acting.{has_effect, has_acted}
+use Rattle.eg_table.specs.Acting.{has_acted}
 
 -- where a class has no effect, nothing is out of order
 abbrev pub OthersDoNothing : Type 0

@@ -3,6 +3,7 @@
 use Rattle.std.specs.Prelude.{ℕ, ◌==◌, Bool, max, is_none, List, [], ◌∷◌, map, take, length, count_by, Option, Some, None, option_map}
 use Rattle.std.specs.List.{filter, filter_map, fold, zip}
 use Rattle.eg_fault.specs.declared.class_name.ClassName.{ClassName}
+use Rattle.eg_fault.specs.declared.class_name.ClassName.TheVariants.{Lapse}
 use Rattle.eg_fault.specs.declared.class.Fault.{Fault}
 use Rattle.eg_fault.specs.Names.{name_of, class_index, classes}
 use Rattle.eg_record.specs.declared.facts.Facts.{Facts}
@@ -48,6 +49,6 @@ class_rows runs = map (λ class. row_of (facts_under class runs)) classes
 unfoldable pub table_of : List Fault → List Facts → List SweepRow
 table_of faults facts = class_rows (zip faults facts)
 
--- the greatest reaction under listed faults: that of the thirteen rows before the last, which is of lapses
+-- the greatest reaction under listed faults: that of the thirteen rows before the one of lapses
 unfoldable pub greatest_listed : List SweepRow → Option ℕ
-greatest_listed rows = greatest_number (filter_map (λ row. row.reaction) (take 13 rows))
+greatest_listed rows = greatest_number (filter_map (λ row. row.reaction) (take (class_index Lapse) rows))

@@ -4,7 +4,8 @@
 use Rattle.std.specs.Prelude.{◌≡◌, ◌↔◌, ℕ, ◌%◌, ◌≤◌, ◌<◌, false, List, All, map, take, IfSome, Some}
 use Rattle.std.specs.List.{Contains}
 use Rattle.eg_fault.specs.declared.class.Fault.{Fault}
-use Rattle.eg_fault.specs.Names.{name_of, classes}
+use Rattle.eg_fault.specs.declared.class_name.ClassName.TheVariants.{Lapse}
+use Rattle.eg_fault.specs.Names.{name_of, class_index, classes}
 use Rattle.eg_fault.specs.Faults.{IsValid, IsListed, is_lapse}
 use Rattle.eg_record.specs.declared.facts.Facts.{Facts}
 use Rattle.eg_record.specs.Facts.{reaction_in}
@@ -47,7 +48,7 @@ ReactsIn bound facts = IfSome (reaction_in facts) (λ n. n ≤ bound)
 
 -- in each row but that of lapses the greatest reaction is at most `bound`, and so is that in the last line
 pub record IsBounded (bound : ℕ) (rows : List SweepRow) : Type 0 where
-  pub each : All (λ row. IfSome row.reaction (λ n. n ≤ bound)) (take 13 rows)
+  pub each : All (λ row. IfSome row.reaction (λ n. n ≤ bound)) (take (class_index Lapse) rows)
   pub greatest : IfSome (greatest_listed rows) (λ n. n ≤ bound)
 
 -- the law: a table is bounded where each run under a listed fault is, wherever the facts of runs come from

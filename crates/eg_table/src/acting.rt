@@ -2,8 +2,8 @@
 ghost use Rattle.std.specs.Prelude.{◌≡◌, ◌≤◌, ◌∷◌, []};
 ghost use Rattle.std.specs.List.{list_any, range_with_len};
 ghost use Rattle.std.specs.Option.{option_copied};
-ghost use Rattle.eg_fault.specs.Faults.{is_left_out};
-ghost use Rattle.eg_table.specs.Acting.{acts_within, has_acted, has_effect};
+ghost use Rattle.eg_fault.specs.Faults.{has_effect, is_left_out};
+ghost use Rattle.eg_table.specs.Acting.{acts_within, has_acted};
 
 use eg_fault::{Class, Fault, Script};
 

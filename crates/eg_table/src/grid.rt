@@ -1,13 +1,11 @@
 // The faults of a sweep.
-ghost use Rattle.std.specs.Prelude.{◌≡◌, ◌≤◌, ◌↔◌, ◌*◌, ◌++◌, ◌∷◌, [], false, All, IfOk, OnOk, IsTrue, length};
+ghost use Rattle.std.specs.Prelude.{◌≡◌, ◌≤◌, ◌↔◌, ◌*◌, ◌++◌, All, IfOk, OnOk, IsTrue, length};
 ghost use Rattle.eg_fault.specs.Faults.{IsValid};
-ghost use Rattle.eg_table.specs.Grid.{faults_of, is_too_large, onset_count, onsets, swept_classes, swept_faults};
+ghost use Rattle.eg_table.specs.Grid.{faults_of, is_too_large, onset_count, onsets, swept_faults};
 ghost use Rattle.eg_table.specs.declared.grid.SweepFault.TheVariants as fault;
 
-use eg_answer::ACTUAL;
 use eg_base::NoMemory;
-use eg_fault::{Class, Fault, Opens, PATH_1, Script};
-use eg_sensor::{LOAD_1, PEDAL_1};
+use eg_fault::{CLASSES, Class, ClassName, Fault};
 use std::alloc::Global;
 
 /// Why the faults of a grid are refused (docs/CONCEPT.md, "`sweep`").
@@ -36,7 +34,7 @@ pub fn sweep_faults(alloc: Global, ticks: u32, step: u32) -> Result<Vec<Fault>, 
     requires step { 1 ≤ step }
     ensures faults { IfOk result (λ faults. faults.items ≡ swept_faults ticks step) }
     ensures grid { (result ≡ Err fault.Grid) ↔ IsTrue (is_too_large ticks step) }
-    ensures count { IfOk result (λ faults. length faults.items ≡ 14 * onset_count ticks step) }
+    ensures count { IfOk result (λ faults. length faults.items ≡ CLASSES * onset_count ticks step) }
     ensures few { IfOk result (λ faults. length faults.items ≤ 1000) }
     ensures valid { IfOk result (λ faults. All IsValid faults.items) }
 {
@@ -54,7 +52,7 @@ pub fn is_too_large(ticks: u32, step: u32) -> bool
     requires { 1 ≤ step }
     ensures { result ≡ is_too_large ticks step }
 {
-    let runs = 14 * u64::from(ticks.div_ceil(step));
+    let runs = CLASSES as u64 * u64::from(ticks.div_ceil(step));
     runs > 1_000 || runs * u64::from(ticks) > 1_000_000
 }
 
@@ -64,9 +62,8 @@ fn faults_of_grid(alloc: Global, ticks: u32, step: u32) -> Result<Vec<Fault>, No
     ensures { IfOk result (λ faults. faults.items ≡ swept_faults ticks step) }
 {
     let mut faults = Vec::new(alloc);
-    let classes = swept_classes();
-    for class in &classes {
-        push_class(&mut faults, class, ticks, step)?;
+    for class in &ClassName::ORDER {
+        push_class(&mut faults, &class.swept(), ticks, step)?;
     }
     Ok(faults)
 }
@@ -83,62 +80,4 @@ fn push_class(faults: &mut Vec<Fault>, class: &Class, ticks: u32, step: u32) -> 
         faults.push(Fault { onset, class })?;
     }
     Ok(())
-}
-
-/// The classes, each with the numbers that it has in a sweep.
-#[tactic(auto, unfolding(crate::specs::Grid::swept_classes))]
-fn swept_classes() -> [Class; 14]
-    ensures { result ≡ swept_classes }
-{
-    [
-        Class::Script {
-            track: LOAD_1,
-            values: script_of(0),
-        },
-        Class::Offset {
-            track: PEDAL_1,
-            add: 200,
-        },
-        Class::Bus { mask: 1 },
-        Class::Plate { at: 1000 },
-        Class::Skip { module: ACTUAL },
-        Class::Disturb {
-            module: ACTUAL,
-            mask: 4096,
-        },
-        Class::Flip { word: 3, mask: 1 },
-        Class::Halt,
-        Class::Timing { offset: 99 },
-        Class::Wild {
-            questions: script_of(65_535),
-            opens: never_open(),
-        },
-        Class::Path1Closed,
-        Class::Path2Closed,
-        Class::PathOpen { path: PATH_1 },
-        Class::Lapse {
-            after: script_of(0),
-            every: 0,
-        },
-    ]
-}
-
-/// The script of this number alone.
-fn script_of(value: u16) -> Script
-    ensures { result ≡ value ∷ [] }
-{
-    match Script::new(&[value]) {
-        Some(script) => script,
-        None => unreachable!(),
-    }
-}
-
-/// The orders of a wild monitoring module that never orders path 2 open.
-fn never_open() -> Opens
-    ensures { result ≡ false ∷ [] }
-{
-    match Opens::new(&[false]) {
-        Some(opens) => opens,
-        None => unreachable!(),
-    }
 }

@@ -6,16 +6,13 @@ ghost use Rattle.eg_table.specs.SweepTexts.{reaction_text, sweep_end, sweep_line
 
 use crate::SweepRow;
 use eg_base::NoMemory;
-use eg_fault::ClassName;
+use eg_fault::{CLASSES, ClassName, LISTED};
 use eg_record::Watch;
 use std::alloc::{AllocError, Global};
 
-/// How many classes stand before the last, the lapses.
-const LISTED: usize = 13;
-
 /// The text of a table: the line of each class, and the last line with the greatest reaction of all classes
 /// but lapses, each with its LF (docs/FORMATS.md, "The table of `sweep`"). NoMemory is its one refusal.
-pub fn sweep_text(alloc: Global, rows: &[SweepRow; 14]) -> Result<Vec<u8>, NoMemory>
+pub fn sweep_text(alloc: Global, rows: &[SweepRow; CLASSES]) -> Result<Vec<u8>, NoMemory>
     ensures { IfOk result (λ text. text.items ≡ sweep_text_of rows.now) }
 {
     let mut text = String::new(alloc);
@@ -49,7 +46,7 @@ fn push_watches(text: &mut String, by_watch: &[u32; 8]) -> Result<(), AllocError
 
 /// Appends the last line.
 #[tactic(auto, unfolding(crate::specs::SweepTexts::sweep_end))]
-fn push_end(text: &mut String, rows: &[SweepRow; 14]) -> Result<(), AllocError>
+fn push_end(text: &mut String, rows: &[SweepRow; CLASSES]) -> Result<(), AllocError>
     ensures { OnOk result (string_bytes text.new ≡ string_bytes text.old ++ sweep_end rows.now) }
 {
     text.push_str("greatest reaction ")?;
@@ -69,8 +66,8 @@ fn push_reaction(text: &mut String, reaction: Option<u32>) -> Result<(), AllocEr
 }
 
 /// The greatest reaction of all classes but lapses, in ticks.
-#[tactic(auto, unfolding(crate::specs::Sweep::greatest_listed))]
-fn greatest_listed(rows: &[SweepRow; 14]) -> Option<u32>
+#[tactic(auto, unfolding(crate::specs::Sweep::greatest_listed, eg_fault::specs::Names::class_index))]
+fn greatest_listed(rows: &[SweepRow; CLASSES]) -> Option<u32>
     ensures { result ≡ greatest_listed rows.now }
 {
     let all = rows.as_slice();

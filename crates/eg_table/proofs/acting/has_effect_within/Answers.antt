@@ -1,6 +1,6 @@
 use Rattle.std.proofs.Common.{◌∙◌, sym, ap}
 use Rattle.std.specs.List.{list_any, range_with_len}
-use Rattle.eg_table.specs.Acting.{has_effect}
+use Rattle.eg_fault.specs.Faults.{has_effect}
 use Rattle.eg_table.proofs.ActingLemmas.{acts_first, other_class}
 use Rattle.eg_table.proofs.acting.has_effect_within.Goals as goal
 

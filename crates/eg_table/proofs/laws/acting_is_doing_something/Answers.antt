@@ -1,4 +1,5 @@
-use Rattle.eg_table.proofs.LawLemmas.{others_do_nothing, effects_do_something, acted_law, unacted_law}
+use Rattle.eg_fault.proofs.ClassLemmas.{others_do_nothing, effects_do_something}
+use Rattle.eg_table.proofs.LawLemmas.{acted_law, unacted_law}
 use Rattle.eg_table.proofs.laws.acting_is_doing_something.Goals as goal
 
 pub returns : goal.returns

@@ -9,19 +9,7 @@ use Rattle.eg_tests.proofs.spelling.classes_are_told_as_they_are_read.Goals as g
 names_are_kept : (n : ClassName) (keys : Members) → name_of (class_of n keys) ≡ n
 unfolding name_of
 names_are_kept name.Script keys = refl
-names_are_kept name.Offset keys = refl
-names_are_kept name.Bus keys = refl
-names_are_kept name.Plate keys = refl
-names_are_kept name.Skip keys = refl
-names_are_kept name.Disturb keys = refl
-names_are_kept name.Flip keys = refl
-names_are_kept name.Halt keys = refl
-names_are_kept name.Timing keys = refl
-names_are_kept name.Wild keys = refl
-names_are_kept name.Path1Closed keys = refl
-names_are_kept name.Path2Closed keys = refl
-names_are_kept name.PathOpen keys = refl
-names_are_kept name.Lapse keys = refl
+names_are_kept _ keys = refl
 
 pub returns : goal.returns
 returns c = record { told = names_are_kept }
