@@ -146,11 +146,6 @@ unfolding is_of name_of class_index effects_of no_effects
 wild_obeys (class.Wild questions opens) e k = refl
 wild_obeys _ e k = absurd (true≢false (sym e))
 
-pub path_in : (c : Class) → is_of name.PathOpen c ≡ true → (path : ℕ) × (c ≡ class.PathOpen path)
-unfolding is_of name_of class_index
-path_in (class.PathOpen path) e = (path, refl)
-path_in _ e = absurd (true≢false (sym e))
-
 pub bus_hides : (class : Class) → is_of name.Bus class ≡ true → hides_at_rest class ≡ true
 unfolding is_of name_of class_index hides_at_rest
 bus_hides (class.Bus mask) e = refl

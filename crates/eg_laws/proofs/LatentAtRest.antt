@@ -1,6 +1,6 @@
 -- Faults that change nothing that counts where pedal, plate and raise are at 0 can stay hidden.
-use Rattle.std.proofs.Common.{◌≡◌, ◌∙◌, refl, sym, ap, subst, ℕ, ℤ, pos, negsuc, ◌+◌, ◌-◌, ◌≤◌, Bool, true, false, List, arith, inl, inr, Some, None, min, max}
-use Rattle.std.specs.Prelude.{if◌then◌else◌, slice_index, ◌==◌}
+use Rattle.std.proofs.Common.{◌≡◌, ◌∙◌, refl, sym, ap, subst, ℕ, ℤ, pos, negsuc, ◌+◌, ◌-◌, ◌%◌, ◌≤◌, ◌==◌, ◌≢◌, ◌||◌, ◌⊎◌, Bool, true, false, List, arith, inl, inr, Some, None, min, max}
+use Rattle.std.specs.Prelude.{if◌then◌else◌, slice_index}
 use Rattle.std.proofs.lemmas.Bool.{ne_eqb, eqb-true, leb-true, or_cases, false≢true}
 use Rattle.eg_num.specs.Arithmetic.{estimate}
 use Rattle.eg_num.specs.Interpolation.{grid_at}
@@ -104,95 +104,59 @@ moves_plain = record {
   free = refl;
 }
 
--- a contact of the brake reads anything
-moves_contact : (track : ℕ) (read : ℕ → ℕ) → 8 ≤ track →
+either : (P : ℕ → Type 0) (b : Bool) (x y : ℕ) → (b ≡ true → P x) → P y → P (if b then x else y)
+either P true x y there other = there refl
+either P false x y there other = other
+
+-- one track reads something else: of pedal and plate 0 where it should, a second one 1000, or it is a contact's
+moves_track : (track : ℕ) (read : ℕ → ℕ) → (track % 2 ≡ 0 → track ≤ 3 → read 0 ≡ 0) →
+    (track % 2 ≡ 1 → track ≤ 3 → 1000 - read 1000 ≡ 0) → ((track ≤ 3) ⊎ (8 ≤ track)) →
     MovesNothing (record no_effects { track = λ i x. if i == track then read x else x })
 unfolding no_effects
-moves_contact track read contact = record {
-  pedal_1 = rw (ne_eqb 0 track (λ e. omega arith)) refl;
-  pedal_2 = rw (ne_eqb 1 track (λ e. omega arith)) refl;
-  plate_1 = rw (ne_eqb 2 track (λ e. omega arith)) refl;
-  plate_2 = rw (ne_eqb 3 track (λ e. omega arith)) refl;
-  others = λ i v l m. rw (ne_eqb i track (λ e. omega arith)) refl;
+moves_track track read first second paired = record {
+  pedal_1 = either (λ v. v ≡ 0) (0 == track) (read 0) 0 (λ e. at 0 (eqb-true 0 track e) first (omega arith) (omega arith)) refl;
+  pedal_2 = either (λ v. 1000 - v ≡ 0) (1 == track) (read 1000) 1000 (λ e. at 1 (eqb-true 1 track e) second (omega arith) (omega arith)) refl;
+  plate_1 = either (λ v. v ≡ 0) (2 == track) (read 0) 0 (λ e. at 2 (eqb-true 2 track e) first (omega arith) (omega arith)) refl;
+  plate_2 = either (λ v. 1000 - v ≡ 0) (3 == track) (read 1000) 1000 (λ e. at 3 (eqb-true 3 track e) second (omega arith) (omega arith)) refl;
+  others = λ i v l m. rw (ne_eqb i track (apart i l m)) refl;
   ran = λ i. refl;
   unflipped = refl;
   undisturbed = λ i. refl;
   free = refl;
 }
+  where
+    at : (i : ℕ) → i ≡ track → {p : ℕ} {X : Type 0} → (track % 2 ≡ p → track ≤ 3 → X) → i % 2 ≡ p → i ≤ 3 → X
+    at i same {p} gives parity low =
+        gives (let e : track % 2 ≡ i % 2 = ap (λ n. n % 2) (sym same) in e ∙ parity) (omega (arith, same, low))
 
--- an offset is cut off
+    apart : (i : ℕ) → 4 ≤ i → i ≤ 7 → i ≢ track
+    apart i l m same = elim paired [ inl low ↦ omega (arith, same, low, l) | inr high ↦ omega (arith, same, high, m) ]
+
+-- a contact of the brake reads anything
+moves_contact : (track : ℕ) (read : ℕ → ℕ) → 8 ≤ track →
+    MovesNothing (record no_effects { track = λ i x. if i == track then read x else x })
+moves_contact track read contact =
+    moves_track track read (λ even low. absurd (omega (arith, low, contact))) (λ odd low. absurd (omega (arith, low, contact))) (inr contact)
+
+-- of the first or of the second tracks of pedal and plate
+of_two : (track a : ℕ) → a ≤ 1 → (track == a || track == a + 2) ≡ true → (track % 2 ≡ a) × (track ≤ 3)
+of_two track a few one = elim (or_cases _ _ one) [
+  | inl e ↦ (let t = eqb-true track a e in (omega (arith, t, few), omega (arith, t, few)))
+  | inr e ↦ (let t = eqb-true track (a + 2) e in (omega (arith, t, few), omega (arith, t, few)))
+]
+
 module _ (k : ℕ) where
-  moves_up : (more : ℕ) → MovesNothing (effects_of (Offset 1 (pos more)) k) × MovesNothing (effects_of (Offset 3 (pos more)) k)
-  unfolding effects_of no_effects offset_by
-  moves_up more = (
-    record {
-      pedal_1 = refl;
-      pedal_2 = cut;
-      plate_1 = refl;
-      plate_2 = refl;
-      others = λ i v l m. rw (ne_eqb i 1 (λ e. omega arith)) refl;
-      ran = λ i. refl;
-      unflipped = refl;
-      undisturbed = λ i. refl;
-      free = refl;
-    },
-    record {
-      pedal_1 = refl;
-      pedal_2 = refl;
-      plate_1 = refl;
-      plate_2 = cut;
-      others = λ i v l m. rw (ne_eqb i 3 (λ e. omega arith)) refl;
-      ran = λ i. refl;
-      unflipped = refl;
-      undisturbed = λ i. refl;
-      free = refl;
-    },
-  )
-    where
-      cut : 1000 - min 65535 (1000 + more) ≡ 0
-      cut = omega arith
-
-  moves_down : (less : ℕ) →
-      MovesNothing (effects_of (Offset 0 (negsuc less)) k) × MovesNothing (effects_of (Offset 2 (negsuc less)) k)
-  unfolding effects_of no_effects offset_by
-  moves_down less = (
-    record {
-      pedal_1 = cut;
-      pedal_2 = refl;
-      plate_1 = refl;
-      plate_2 = refl;
-      others = λ i v l m. rw (ne_eqb i 0 (λ e. omega arith)) refl;
-      ran = λ i. refl;
-      unflipped = refl;
-      undisturbed = λ i. refl;
-      free = refl;
-    },
-    record {
-      pedal_1 = refl;
-      pedal_2 = refl;
-      plate_1 = cut;
-      plate_2 = refl;
-      others = λ i v l m. rw (ne_eqb i 2 (λ e. omega arith)) refl;
-      ran = λ i. refl;
-      unflipped = refl;
-      undisturbed = λ i. refl;
-      free = refl;
-    },
-  )
-    where
-      cut : 0 - (less + 1) ≡ 0
-      cut = omega arith
-
+  -- an offset is cut off
   moves_cut : (track : ℕ) (add : ℤ) → is_cut_off track add ≡ true → MovesNothing (effects_of (Offset track add) k)
-  unfolding is_cut_off
-  moves_cut track (pos more) cut = elim (or_cases _ _ cut) [
-    | inl e ↦ subst (λ t. MovesNothing (effects_of (Offset t (pos more)) k)) (sym (eqb-true track 1 e)) (moves_up more).0
-    | inr e ↦ subst (λ t. MovesNothing (effects_of (Offset t (pos more)) k)) (sym (eqb-true track 3 e)) (moves_up more).1
-  ]
-  moves_cut track (negsuc less) cut = elim (or_cases _ _ cut) [
-    | inl e ↦ subst (λ t. MovesNothing (effects_of (Offset t (negsuc less)) k)) (sym (eqb-true track 0 e)) (moves_down less).0
-    | inr e ↦ subst (λ t. MovesNothing (effects_of (Offset t (negsuc less)) k)) (sym (eqb-true track 2 e)) (moves_down less).1
-  ]
+  unfolding is_cut_off effects_of offset_by
+  moves_cut track (pos more) cut =
+      let second = of_two track 1 (omega arith) cut in
+      moves_track track (offset_by (pos more)) (λ even low. absurd (let odd = second.0 in omega (arith, even, odd)))
+      (λ odd low. omega arith) (inl second.1)
+  moves_cut track (negsuc less) cut =
+      let first = of_two track 0 (omega arith) cut in
+      moves_track track (offset_by (negsuc less)) (λ even low. omega arith)
+      (λ odd low. absurd (let even = first.0 in omega (arith, even, odd))) (inl first.1)
 
   moves_class : (class : Class) → hides_at_rest class ≡ true → MovesNothing (effects_of class k)
   unfolding hides_at_rest effects_of
