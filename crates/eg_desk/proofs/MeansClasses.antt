@@ -103,7 +103,8 @@ unfolding is_lapse swept name_of
 named_lapse (class.Lapse after every) = refl
 named_lapse _ = refl
 
-named_soon : (onset tick : ℕ) (class : Class) → reacts_at_once class onset tick ≡ reacts_at_once (swept (name_of class)) onset tick
+named_soon : (onset tick : ℕ) (class : Class) →
+    reacts_at_once class onset tick ≡ reacts_at_once (swept (name_of class)) onset tick
 unfolding reacts_at_once swept name_of
 named_soon onset tick class.Halt = refl
 named_soon onset tick _ = refl
@@ -124,8 +125,8 @@ named_hides (class.Timing offset) = refl
 named_hides _ = refl
 
 -- so it holds of each class of a name as it does in a sweep
-pub as_swept : (holds : Class → Bool) → ((class : Class) → holds class ≡ holds (swept (name_of class))) → (n : ClassName) (b : Bool) →
-    holds (swept n) ≡ b → (class : Class) → is_of n class ≡ true → holds class ≡ b
+pub as_swept : (holds : Class → Bool) → ((class : Class) → holds class ≡ holds (swept (name_of class))) →
+    (n : ClassName) (b : Bool) → holds (swept n) ≡ b → (class : Class) → is_of n class ≡ true → holds class ≡ b
 unfolding is_of
 as_swept holds named n b is class e = by_name holds named n class e ∙ is
 

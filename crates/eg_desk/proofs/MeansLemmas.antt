@@ -2,7 +2,7 @@
 use Rattle.std.proofs.Common.{◌≡◌, ◌∙◌, refl, sym, ap, subst, ℕ, ◌+◌, ◌-◌, ◌≤◌, ◌<◌, Bool, true, false, not, ◌&&◌, ◌||◌, max, List, [], ◌∷◌, ◌++◌, All, length, append_assoc, arith, inl, inr, Option, Some, None}
 use Rattle.std.specs.Prelude.{◌==◌, SomeIff}
 use Rattle.std.specs.List.{list_any}
-use Rattle.std.proofs.lemmas.Bool.{cases_lt, eq-eqb, or_left, or_right, and_from, and_parts}
+use Rattle.std.proofs.lemmas.Bool.{cases_lt, eq-eqb, or_left, or_right, and_from, and_parts, true≢false}
 use Rattle.eg_answer.specs.Times.{feeds_to_confirm, reaction_of, test_ticks_of, lapse_bound_of, HasMissSpacing, miss_spacing_of}
 use Rattle.eg_values.specs.Calibration.{CalibrationParts}
 use Rattle.eg_values.specs.Excess.{BoundsLapses}
@@ -13,6 +13,7 @@ use Rattle.eg_fault.specs.Running.{may_change_levels}
 use Rattle.eg_fault.specs.declared.class.Class.{Class}
 use Rattle.eg_fault.specs.declared.class.Class.TheVariants as class
 use Rattle.eg_fault.specs.declared.class.Fault.{Fault}
+use Rattle.eg_fault.specs.Names.{name_of, class_index}
 use Rattle.eg_fault.specs.declared.class_name.ClassName.{ClassName}
 use Rattle.eg_fault.specs.declared.class_name.ClassName.TheVariants as name
 use Rattle.eg_fault.specs.declared.paths.TheConstants.{PATH_1, PATH_2}
@@ -45,7 +46,12 @@ use Rattle.eg_desk.specs.declared.coverage.Off.TheVariants.{After, Confirmed}
 use Rattle.eg_desk.specs.Coverage.{AreTicks, found, unfound, lapse_off, lapse_hidden, numbers_of}
 use Rattle.eg_desk.specs.Means.{SmallOffsetsStay, SmallScriptsStay, MovesStay, on_contact, FindsFlip, FindsClosed, ReactsIn, ExcessIsBelow, RowMeans, MeansPedal, MeansApart, MeansUnfound, MeansSpoiled, MeansTested, MeansLapse, MeansSpaced, NumbersMean, is_of, IsOffFrom, FindsAnswersWithin, FindsApart, CutsApart, CutsOrdered}
 use Rattle.eg_desk.proofs.MeansRows.{at_row, all_by, any_append, IsBoth, both_paths, off_by_1, off_by_2, Obeys, Runs, obeys_plain, runs_plain, off_after_trip, answers_within, off_within, cuts, mirror_trips, cuts_apart, IsPlaced, placed, react_next}
-use Rattle.eg_desk.proofs.MeansClasses.{IsAtOnce, MayRead, by_script, by_offset, spoils_obeys, moved_obeys, MayFlip, may_flip, named_lapse, named_spoils, named_closed, as_swept, at_once, of_swept, wild_obeys, path_in, bus_hides, contact_hides, all_hide, all_hide_at_rest, small_offsets_stay, small_scripts_stay, moves_stay, far_misses_stay, lapse_of}
+use Rattle.eg_desk.proofs.MeansClasses.{IsAtOnce, MayRead, by_script, by_offset, spoils_obeys, moved_obeys, MayFlip, may_flip, named_lapse, named_spoils, named_closed, as_swept, at_once, of_swept, wild_obeys, bus_hides, contact_hides, all_hide, all_hide_at_rest, small_offsets_stay, small_scripts_stay, moves_stay, far_misses_stay, lapse_of}
+
+path_in : (c : Class) → is_of name.PathOpen c ≡ true → (path : ℕ) × (c ≡ class.PathOpen path)
+unfolding is_of name_of class_index
+path_in (class.PathOpen path) e = (path, refl)
+path_in _ e = absurd (true≢false (sym e))
 
 -- ---- each run ----
 

@@ -148,9 +148,10 @@ AllHideAtRest cal meant =
     IsAccepted cal → (fault : Fault) → IsValid fault → meant fault.class ≡ true →
     CanStayHidden diesel cal fault
 
--- offsets within the tolerance of a pair stay hidden; so do scripts within that of the pedal or the speed,
--- where these stand still; and so do send ticks that are moved within the window, and lapses whose misses lie
--- as far apart as `spacing` of `limits` says
+-- offsets within the tolerance of a pair stay hidden (where all tolerances are 0 there are none, and nothing
+-- is said); so do scripts within that of the pedal or the speed, where these stand still; and so do send
+-- ticks that are moved within the window, and lapses whose misses lie as far apart as `spacing` of `limits`
+-- says
 abbrev pub SmallOffsetsStay : Type 0
 SmallOffsetsStay = (engine : EngineKind) → SmallOffsetsHide (bench_of engine)
 

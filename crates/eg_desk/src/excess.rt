@@ -10,7 +10,6 @@ use eg_torque::NO_RAMP;
 use eg_values::Calibration;
 
 /// How many ticks in a row an excess lasts at the most, without a fault or under a listed one.
-#[tactic(auto, unfolding(eg_values::specs::Excess::longest_stretch, eg_values::specs::Excess::ticks_to_confirm))]
 pub(crate) fn longest_stretch(calibration: &Calibration) -> u32
     ensures { result ≡ longest_stretch calibration.now }
 {

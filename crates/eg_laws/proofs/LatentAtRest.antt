@@ -1,5 +1,5 @@
 -- Faults that change nothing that counts where pedal, plate and raise are at 0 can stay hidden.
-use Rattle.std.proofs.Common.{◌≡◌, ◌∙◌, refl, sym, ap, subst, ℕ, ℤ, pos, negsuc, ◌+◌, ◌-◌, ◌%◌, ◌≤◌, ◌==◌, ◌≢◌, ◌||◌, ◌⊎◌, Bool, true, false, List, arith, inl, inr, Some, None, min, max}
+use Rattle.std.proofs.Common.{◌≡◌, ◌∙◌, refl, sym, ap, ℕ, ℤ, pos, negsuc, ◌+◌, ◌-◌, ◌%◌, ◌≤◌, ◌==◌, ◌≢◌, ◌||◌, ◌⊎◌, Bool, true, false, List, arith, inl, inr, Some, None, min, max}
 use Rattle.std.specs.Prelude.{if◌then◌else◌, slice_index}
 use Rattle.std.proofs.lemmas.Bool.{ne_eqb, eqb-true, leb-true, or_cases, false≢true}
 use Rattle.eg_num.specs.Arithmetic.{estimate}
@@ -115,9 +115,11 @@ moves_track : (track : ℕ) (read : ℕ → ℕ) → (track % 2 ≡ 0 → track 
 unfolding no_effects
 moves_track track read first second paired = record {
   pedal_1 = either (λ v. v ≡ 0) (0 == track) (read 0) 0 (λ e. at 0 (eqb-true 0 track e) first (omega arith) (omega arith)) refl;
-  pedal_2 = either (λ v. 1000 - v ≡ 0) (1 == track) (read 1000) 1000 (λ e. at 1 (eqb-true 1 track e) second (omega arith) (omega arith)) refl;
+  pedal_2 = either (λ v. 1000 - v ≡ 0) (1 == track) (read 1000) 1000
+      (λ e. at 1 (eqb-true 1 track e) second (omega arith) (omega arith)) refl;
   plate_1 = either (λ v. v ≡ 0) (2 == track) (read 0) 0 (λ e. at 2 (eqb-true 2 track e) first (omega arith) (omega arith)) refl;
-  plate_2 = either (λ v. 1000 - v ≡ 0) (3 == track) (read 1000) 1000 (λ e. at 3 (eqb-true 3 track e) second (omega arith) (omega arith)) refl;
+  plate_2 = either (λ v. 1000 - v ≡ 0) (3 == track) (read 1000) 1000
+      (λ e. at 3 (eqb-true 3 track e) second (omega arith) (omega arith)) refl;
   others = λ i v l m. rw (ne_eqb i track (apart i l m)) refl;
   ran = λ i. refl;
   unflipped = refl;
@@ -136,7 +138,8 @@ moves_track track read first second paired = record {
 moves_contact : (track : ℕ) (read : ℕ → ℕ) → 8 ≤ track →
     MovesNothing (record no_effects { track = λ i x. if i == track then read x else x })
 moves_contact track read contact =
-    moves_track track read (λ even low. absurd (omega (arith, low, contact))) (λ odd low. absurd (omega (arith, low, contact))) (inr contact)
+    moves_track track read (λ even low. absurd (omega (arith, low, contact)))
+    (λ odd low. absurd (omega (arith, low, contact))) (inr contact)
 
 -- of the first or of the second tracks of pedal and plate
 of_two : (track a : ℕ) → a ≤ 1 → (track == a || track == a + 2) ≡ true → (track % 2 ≡ a) × (track ≤ 3)

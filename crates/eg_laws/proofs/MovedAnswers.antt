@@ -26,9 +26,9 @@ use Rattle.eg_model.specs.Moments.{moment, moments_of}
 use Rattle.eg_model.specs.Premises.{Follows, is_on_after}
 use Rattle.eg_laws.specs.Findings.{cutting, Finds, opens_by_itself}
 use Rattle.eg_laws.specs.Coverage.{sends_outside, IsCutInTime, MovedAreCut}
-use Rattle.eg_model.proofs.PeriodLemmas.{at_place, period_closes, period_open, period_room, counts_from, enough_periods}
+use Rattle.eg_model.proofs.PeriodLemmas.{at_place, period_room, counts_from, enough_periods}
 use Rattle.eg_model.proofs.TickLemmas.{length-moments, fields}
-use Rattle.eg_model.proofs.Silence.{EachAnswer, TrueRun, period_least, send_within, verdict_none, verdict_some, wrongs, wrongs-cons, runs_on, run_confirms, longer_run, enough_weight, opens_when_confirmed, off_by_latch2}
+use Rattle.eg_model.proofs.Silence.{EachAnswer, TrueRun, period_least, send_within, verdict_some, wrongs, runs_more, run_confirms, longer_run, enough_weight, opens_when_confirmed, off_by_latch2}
 use Rattle.eg_model.proofs.SpanRows.{follows-end, rows_after, length-rows_after, SpanRows, RowAfter, row_on, row_tick, all_rows, Split, split}
 use Rattle.eg_model.proofs.SpanLaws.{reaction_least}
 use Rattle.eg_laws.proofs.FindingLaws.{find_before_off}
@@ -203,45 +203,19 @@ module _ (s : Setting) (are : AreTimes s.cal.times) (u offset : ℕ)
 
   -- each that has closed since then was judged wrong
   moved_run : (h : List Tick) → MovedFrom u offset h → TrueRun (length h / period - first) (wrongs (moments_of s h))
-  unfolding moments_of MovedFrom
+  unfolding MovedFrom
   moved_run [] moved = subst (λ n. TrueRun n (wrongs (moments_of s []))) (sym none) (unfold TrueRun in tt)
     where
       none : 0 / period - first ≡ 0
       none = let z = period_least s.cal.times are in omega (arith, z)
-  moved_run (x ∷ h) moved = subst (λ n. TrueRun (n / period - first) (wrongs (m ∷ past))) one_more
-      (subst (TrueRun ((length h + 1) / period - first)) (sym (wrongs-cons m past))
-      (runs_on (length h / period - first) ((length h + 1) / period - first) m.verdict (wrongs past) (moved_run h moved.1)
-      (grown ((length h + 1) % period) refl)))
+  moved_run (x ∷ h) moved = subst (λ n. TrueRun (n / period - first) (wrongs (moments_of s (x ∷ h)))) one_more
+      (runs_more s are x h first (λ ends counts. closes_moved s are u offset out x h (unfold MovedFrom in moved) ends
+      (counts_from period s.cal.times.send u (length h / period) (period_least s.cal.times are)
+      (send_within s.cal.times are) counts))
+      (moved_run h moved.1))
     where
       one_more : length h + 1 ≡ suc (length h)
       one_more = omega arith
-
-      past : List Moment
-      past = moments_of s h
-
-      m : Moment
-      m = moment s x.effects x.entry past
-
-      some : 0 < period
-      some = period_least s.cal.times are
-
-      grown : (r : ℕ) → (length h + 1) % period ≡ r →
-          ((m.verdict ≡ None) × ((length h + 1) / period - first ≡ length h / period - first))
-          ⊎ (((m.verdict ≡ Some Wrong) × ((length h + 1) / period - first ≡ suc (length h / period - first)))
-          ⊎ ((length h + 1) / period - first ≡ 0))
-      grown (suc r) inside = inl (
-        (fields s x.effects x.entry past).verdict ∙ verdict_none s.cal.times are x.effects m.mark past
-            (subst (λ n. 0 < (n + 1) % period) (sym (length-moments s h)) (omega (arith, inside))),
-        ap (λ q. q - first) (period_open period (length h) some (omega (arith, inside))),
-      )
-      grown zero ends = elim (cases_lt (length h / period) first) [
-        | inl early ↦ inr (inr (let one = period_closes period (length h) some ends in omega (arith, one, early)))
-        | inr counts ↦ inr (inl (
-          closes_moved s are u offset out x h (unfold MovedFrom in moved) ends
-              (counts_from period s.cal.times.send u (length h / period) some (send_within s.cal.times are) counts),
-          (let one = period_closes period (length h) some ends in omega (arith, one, counts)),
-        ))
-      ]
 
 -- so from R ticks after tick u on path 2 is ordered open
 moved_opens : (s : Setting) → IsAccepted s.cal → (u offset : ℕ) →

@@ -15,7 +15,7 @@ use Rattle.eg_answer.specs.declared.modules.TheConstants.{REACT}
 use Rattle.eg_answer.specs.Modules.{modules_before_react, modules}
 use Rattle.eg_values.specs.Calibration.{IsAccepted}
 use Rattle.eg_fault.specs.Effects.{Effects, no_effects, sends_in, sends_at}
-use Rattle.eg_fault.specs.Faults.{effects_of, effects, IsValidClass, is_lapse, IsListed}
+use Rattle.eg_fault.specs.Faults.{effects_of, effects, is_lapse, IsListed}
 use Rattle.eg_fault.specs.Classes.{IsRegular, may_change_answers}
 use Rattle.eg_fault.specs.declared.class.Class.{Class}
 use Rattle.eg_fault.specs.declared.class.Class.TheVariants.{Skip, Disturb, Halt, Timing, Wild, Lapse}
@@ -31,10 +31,10 @@ use Rattle.eg_model.specs.Reaction.{spoils_answers}
 use Rattle.eg_laws.specs.Coverage.{spoils_at, silent_from, wrong_from, confirmed_at, SparesAnswers}
 use Rattle.eg_model.proofs.PeriodLemmas.{quotient, period_closes, period_open}
 use Rattle.eg_model.proofs.TickLemmas.{Each, along, length-moments, tripped-cons, fields}
-use Rattle.eg_model.proofs.ClassLemmas.{of_history, mark_not_good, IsSpoiled, spoiled_skip, spoiled_halt, spoiled_disturb}
+use Rattle.eg_model.proofs.ClassLemmas.{of_history, mark_not_good, IsSpoiled}
 use Rattle.eg_model.proofs.Silence.{AreRegular, NoGood, wrongs, with_wrong, wrongs-cons, TrueRun, closed, wrong_run, run_confirms, longer_run, enough_weight, period_least, send_within}
-use Rattle.eg_model.proofs.ReactionLaw.{Unanswered, unanswered_on}
-use Rattle.eg_model.proofs.SharpCutLaw.{AllGood, AreUsual, usual_mark, mark_plain, whole_plain, reacts_plain, whole-cons, verdict_usual, IsNotWrong, right_bits}
+use Rattle.eg_model.proofs.ReactionLaw.{Unanswered, unanswered_on, spoiling}
+use Rattle.eg_model.proofs.SharpCutLaw.{AllGood, AreUsual, usual_mark, mark_plain, whole_plain, undisturbed_plain, reacts_plain, whole-cons, verdict_usual, IsNotWrong, right_bits}
 use Rattle.eg_model.proofs.SpanRows.{rows_after, length-rows_after, SpanRows, row_tick}
 use Rattle.eg_laws.proofs.FewVerdicts.{never, too_few, quotient_short, quotient_positive, HasFew, few_on}
 use Rattle.eg_laws.proofs.PathLaws.{trips_row}
@@ -47,10 +47,6 @@ record CanAnswer (x : Effects) : Type 0 where
   pub whole : is_whole x ≡ true
   pub undisturbed : is_undisturbed x ≡ true
   pub reacts : x.ran REACT ≡ true
-
-undisturbed_plain : is_undisturbed no_effects ≡ true
-unfolding is_undisturbed modules modules_before_react no_effects
-undisturbed_plain = refl
 
 can_answer_plain : CanAnswer no_effects
 can_answer_plain = record { regular = regular; whole = whole_plain; undisturbed = undisturbed_plain; reacts = reacts_plain }
@@ -71,14 +67,6 @@ can_answer_class _ k a b c = record {
   undisturbed = refl;
   reacts = refl;
 }
-
-spoiled_class : (class : Class) (k : ℕ) → IsValidClass class → spoils_answers class ≡ true → IsSpoiled (effects_of class k)
-unfolding spoils_answers IsValidClass
-spoiled_class (Skip index) k valid spoils = spoiled_skip index k valid
-spoiled_class (Disturb index mask) k valid spoils =
-    spoiled_disturb index mask k (let a = valid.1 in omega arith) (let a = valid.2.0 in omega arith)
-spoiled_class Halt k valid spoils = spoiled_halt k
-spoiled_class _ k valid spoils = absurd (true≢false (sym spoils))
 
 module _ (fault : Option Fault) (listed : IsListed fault) (spares : SparesAnswers fault) (t : ℕ) where
   regular_at : IsRegular (effects fault t)
@@ -107,7 +95,7 @@ module _ (fault : Option Fault) (listed : IsListed fault) (spares : SparesAnswer
       go : (f : Option Fault) → IsListed f → spoils_at f t ≡ true → IsSpoiled (effects f t)
       go None listed e = absurd (true≢false (sym e))
       go (Some f) listed e = let parts = and_parts _ _ e in
-          subst IsSpoiled (sym (from_onset f t (leb-true _ _ parts.0))) (spoiled_class f.class (t - f.onset) listed.0.1 parts.1)
+          subst IsSpoiled (sym (from_onset f t (leb-true _ _ parts.0))) ((spoiling f.class listed.0.1 parts.1).spoiled (t - f.onset))
 
 -- what spoils the answers goes on doing so
 spoils_on : (fault : Option Fault) (t u : ℕ) → t ≤ u → spoils_at fault t ≡ true → spoils_at fault u ≡ true

@@ -3,11 +3,11 @@ ghost use Rattle.eg_plant.specs.declared.engine_kind.EngineKind.{EngineKind};
 ghost use Rattle.eg_model.specs.Engines.{bench_of};
 ghost use Rattle.eg_laws.specs.Ramps.{NoRampTakesNoTick, LevelRampHasNoEnd, RecordsLeaveRamps, RecordsPermitDemand};
 
-/// In each drive span of the record of a run on the bench, of each engine and under each fault, the
-/// permitted torque lies above the demand for fewer ticks in a row than the ramp takes from the permit
-/// table's greatest number to its least (docs/CONCEPT.md, "Torque"), where no raise is more than that
-/// greatest number. Without a ramp that is no tick, and the permitted torque is the demand at each row; a
-/// ramp that never comes down has no such number. It does nothing when it runs.
+/// In each drive span of the record of a run on the bench, of each engine, without a fault and under each
+/// valid one, the permitted torque lies above the demand for fewer ticks in a row than the ramp takes from
+/// the permit table's greatest number to its least (docs/CONCEPT.md, "Torque"), where no raise is more
+/// than that greatest number. Without a ramp that is no tick, and the permitted torque is the demand at each
+/// row; a ramp that never comes down has no such number. It does nothing when it runs.
 pub fn records_leave_ramps()
     ensures ticks { (engine : EngineKind) → RecordsLeaveRamps (bench_of engine) }
     ensures none { NoRampTakesNoTick }

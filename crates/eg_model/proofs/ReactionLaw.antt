@@ -245,7 +245,7 @@ record IsOf (s : Setting) (f : Fault) (c : Class) : Type 0 where
   pub class : f.class ≡ c
 
 -- what is told of a class under which no answer is good: Skip, Disturb, Halt
-record IsSpoiling (c : Class) : Type 0 where
+pub record IsSpoiling (c : Class) : Type 0 where
   pub answers : may_change_answers c ≡ false
   pub path_1 : closes c PATH_1 ≡ false
   pub path_2 : closes c PATH_2 ≡ false
@@ -331,7 +331,7 @@ cut_at_once Path1Closed of g l b = absurd (false≢true b)
 cut_at_once (Lapse after every) of g l b = absurd (false≢true (sym l))
 cut_at_once c of g l b = cut_seen of g refl refl
 
-spoiling : (c : Class) → IsValidClass c → spoils_answers c ≡ true → IsSpoiling c
+pub spoiling : (c : Class) → IsValidClass c → spoils_answers c ≡ true → IsSpoiling c
 unfolding spoils_answers may_change_answers closes IsValidClass
 spoiling (Skip i) v b =
     record { answers = refl; path_1 = refl; path_2 = refl; spoiled = λ k. spoiled_skip i k v }

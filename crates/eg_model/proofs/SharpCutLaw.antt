@@ -150,7 +150,7 @@ pub whole_plain : is_whole no_effects ≡ true
 unfolding is_whole modules modules_before_react no_effects
 whole_plain = refl
 
-undisturbed_plain : is_undisturbed no_effects ≡ true
+pub undisturbed_plain : is_undisturbed no_effects ≡ true
 unfolding is_undisturbed modules modules_before_react no_effects
 undisturbed_plain = refl
 

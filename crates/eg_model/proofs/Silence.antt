@@ -223,48 +223,44 @@ runs_on n k v bits run (inr (inr h)) = rw h tt
 unfoldable pub closed : TimeParts → ℕ → ℕ → ℕ
 closed times s0 t = t / times.period - (s0 + times.period - 1 - times.send) / times.period
 
--- what one tick more makes of the verdict and of the count of closed periods
-abbrev Grows : Setting → List Tick → List Tick → Tick → Type 0
-Grows s more h x =
-    let v = (moment s x.effects x.entry (moments_of s (more ++ h))).verdict in
-    let n = closed s.cal.times (length h) (length (more ++ h)) in
-    let k = closed s.cal.times (length h) (length (more ++ h) + 1) in
-    ((v ≡ None) × (k ≡ n)) ⊎ (((v ≡ Some Wrong) × (k ≡ suc n)) ⊎ (k ≡ 0))
-
-grows_at_end : (s : Setting) → AreTimes s.cal.times → (x : Tick) (more h : List Tick) →
-    AreRegular (x ∷ more ++ h) → NoGood s (x ∷ more) h → (length (more ++ h) + 1) % s.cal.times.period ≡ 0 →
-    Grows s more h x
-unfolding closed
-grows_at_end s are x more h r none ends =
-    let times = s.cal.times in
-    let one = period_closes times.period (length (more ++ h)) (period_least times are) ends in
-    elim (cases_lt (length (more ++ h) / times.period) ((length h + times.period - 1 - times.send) / times.period)) [
-      | inr counts ↦ inr (inl (
-        closes_wrong s are x more h r none ends
-            (counts_from times.period times.send (length h) (length (more ++ h) / times.period)
-            (period_least times are) (send_within times are) counts),
-        omega arith,
-      ))
-      | inl not_yet ↦ inr (inr (omega arith))
-    ]
-
-grows : (s : Setting) → AreTimes s.cal.times → (x : Tick) (more h : List Tick) →
-    AreRegular (x ∷ more ++ h) → NoGood s (x ∷ more) h → Grows s more h x
-unfolding closed
-grows s are x more h r none = go ((length (more ++ h) + 1) % s.cal.times.period) refl
+-- One tick more, where the count of closed periods begins at one: each that ends and counts has to be judged wrong.
+pub runs_more : (s : Setting) → AreTimes s.cal.times → (x : Tick) (h : List Tick) (first : ℕ) →
+    ((length h + 1) % s.cal.times.period ≡ 0 → first ≤ length h / s.cal.times.period →
+    (moment s x.effects x.entry (moments_of s h)).verdict ≡ Some Wrong) →
+    TrueRun (length h / s.cal.times.period - first) (wrongs (moments_of s h)) →
+    TrueRun ((length h + 1) / s.cal.times.period - first) (wrongs (moments_of s (x ∷ h)))
+unfolding moments_of
+runs_more s are x h first wrong run = rw (wrongs-cons m past)
+    (runs_on (length h / period - first) ((length h + 1) / period - first) m.verdict (wrongs past) run
+    (go ((length h + 1) % period) refl))
   where
-    go : (n : ℕ) → (length (more ++ h) + 1) % s.cal.times.period ≡ n → Grows s more h x
-    go zero ends = grows_at_end s are x more h r none ends
-    go (suc n) open_ =
-        let inside : 0 < (length (more ++ h) + 1) % s.cal.times.period = omega arith in
-        let same = period_open s.cal.times.period (length (more ++ h))
-        (period_least s.cal.times are) inside in
-        inl (
-          (fields s x.effects x.entry (moments_of s (more ++ h))).verdict
-              ∙ verdict_none s.cal.times are x.effects _ (moments_of s (more ++ h))
-              (rw (length-moments s (more ++ h)) inside),
-          rw same refl,
-        )
+    period : ℕ
+    period = s.cal.times.period
+
+    past : List Moment
+    past = moments_of s h
+
+    m : Moment
+    m = moment s x.effects x.entry past
+
+    some : 0 < period
+    some = period_least s.cal.times are
+
+    go : (r : ℕ) → (length h + 1) % period ≡ r →
+        ((m.verdict ≡ None) × ((length h + 1) / period - first ≡ length h / period - first))
+        ⊎ (((m.verdict ≡ Some Wrong) × ((length h + 1) / period - first ≡ suc (length h / period - first)))
+        ⊎ ((length h + 1) / period - first ≡ 0))
+    go (suc r) inside = inl (
+      (fields s x.effects x.entry past).verdict ∙ verdict_none s.cal.times are x.effects m.mark past
+          (rw (length-moments s h) (omega (arith, inside))),
+      ap (λ q. q - first) (period_open period (length h) some (omega (arith, inside))),
+    )
+    go zero ends =
+        let one = period_closes period (length h) some ends in
+        elim (cases_lt (length h / period) first) [
+          | inl early ↦ inr (inr (omega (arith, one, early)))
+          | inr counts ↦ inr (inl (wrong ends counts, omega (arith, one, counts)))
+        ]
 
 nothing_closed : (times : TimeParts) → AreTimes times → (s0 : ℕ) → closed times s0 s0 ≡ 0
 unfolding closed
@@ -275,15 +271,12 @@ nothing_closed times are s0 = let f =
 pub wrong_run : (s : Setting) → AreTimes s.cal.times → (more h : List Tick) → AreRegular (more ++ h) →
     NoGood s more h → TrueRun (closed s.cal.times (length h) (length (more ++ h)))
     (wrongs (moments_of s (more ++ h)))
-unfolding moments_of NoGood Each
+unfolding NoGood Each closed
 wrong_run s are [] h r none = rw (nothing_closed s.cal.times are (length h)) (unfold TrueRun in tt)
-wrong_run s are (x ∷ more) h r none =
-    let m = moment s x.effects x.entry (moments_of s (more ++ h)) in
-    rw (← add-one, wrongs-cons m (moments_of s (more ++ h)))
-    (runs_on (closed s.cal.times (length h) (length (more ++ h)))
-    (closed s.cal.times (length h) (length (more ++ h) + 1)) m.verdict
-    (wrongs (moments_of s (more ++ h)))
-    (wrong_run s are more h r.1 none.1) (grows s are x more h r none))
+wrong_run s are (x ∷ more) h r none = rw (← add-one)
+    (runs_more s are x (more ++ h) _ (λ ends counts. closes_wrong s are x more h r none ends
+    (counts_from s.cal.times.period s.cal.times.send (length h) (length (more ++ h) / s.cal.times.period)
+    (period_least s.cal.times are) (send_within s.cal.times are) counts)) (wrong_run s are more h r.1 none.1))
 
 -- a run of true bits weighs as much
 run_weighs : (w : WeightParts) (n : ℕ) (bits : List Bool) → TrueRun n bits → n * w.up ≤ greatest w bits

@@ -1,5 +1,6 @@
-use Rattle.std.proofs.Common.{◌≤◌, subst, arith}
+use Rattle.std.proofs.Common.{rules, ◌≤◌, subst, arith}
 use Rattle.eg_answer.specs.Times.{feeds_to_confirm}
+use Rattle.eg_values.specs.Excess.{longest_stretch, ticks_to_confirm}
 use Rattle.eg_desk.proofs.LimitLemmas.{reaction-small}
 use Rattle.eg_desk.proofs.excess.longest_stretch.Goals as goal
 
@@ -12,3 +13,7 @@ overflow_add-result c =
     let reaction = c.reaction.ensures in
     let excess = c.feeds_to_confirm.ensures.within in
     omega (arith, small, reaction, excess)
+
+pub returns : goal.returns
+unfolding longest_stretch ticks_to_confirm
+returns c = search rules
