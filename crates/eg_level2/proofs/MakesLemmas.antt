@@ -1,7 +1,9 @@
 -- Calls that make stores, one after another, where they are done and where they end early.
-use Rattle.std.proofs.Common.{◌≡◌, ◌∙◌, refl, sym, ap, subst, ℕ, zero, suc, ◌+◌, ◌-◌, ◌<◌, ◌≤◌, Bool, true, false, List, [], ◌∷◌, ◌++◌, length, take, drop, slice_index}
+use Rattle.std.proofs.Common.{◌≡◌, ◌∙◌, refl, sym, ap, subst, inl, inr, ℕ, zero, suc, ◌+◌, ◌-◌, ◌<◌, ◌≤◌, Bool, true, false, List, [], ◌∷◌, ◌++◌, length, take, drop, slice_index}
 use Rattle.std.specs.Prelude.{Result, Ok, Err, IsErr, OnOk, OnErr}
 use Rattle.std.proofs.lemmas.List.{append-nil, drop_more, drop_all}
+use Rattle.std.proofs.Math.Path.{fun_ext}
+use Rattle.std.proofs.lemmas.Bool.Decides.{eqb_tells}
 use Rattle.std.proofs.lemmas.Result.{on_ok_weaker, on_err_weaker, IfOk-from_err}
 use Rattle.eg_guard.specs.Memory.{ShownMemory, KeepsMemory}
 use Rattle.eg_guard.proofs.KeepsLemmas.{keeps_then, keeps_done, keeps_refused, clash}
@@ -109,6 +111,25 @@ unfolding both_where
 all_where number value e made = rw e made
 
 -- ---- a word and its complement ----
+
+-- where they stand already
+put-same : (word : ℕ → ℕ) (number value : ℕ) → word number ≡ value → put number value word ≡ word
+unfolding put
+put-same word number value e = fun_ext (λ k. elim (eqb_tells k number) [
+  | inl same ↦ rw same.0 (sym e ∙ ap word (sym same.1))
+  | inr apart ↦ rw apart.0 refl
+])
+
+pub kept_both : {T E : Type 0} (number value : ℕ) {a : ShownMemory} {x : T} → word_at a.words number ≡ value → word_at a.words (number + 16) ≡ 65535 - value
+    → (let done : Result T E = Ok x in Makes (both number value) a a done)
+unfolding both store after_stores
+kept_both {T = T} {E = E} number value {a = a} {x = x} same other =
+    let nothing : (let done : Result T E = Ok x in Makes [] a a done) = none in
+    record {
+      stored = sym (ap (put (number + 16) (65535 - value)) (put-same (word_at a.words) number value same) ∙ put-same (word_at a.words) (number + 16) (65535 - value) other);
+      stopped = tt;
+      keeps = nothing.keeps;
+    }
 
 -- where memory ran out at the word
 pub put_refused : {T E U F : Type 0} (number value : ℕ) {a b : ShownMemory} {e : E} (result : Result U F) → IsErr result → word_at b.words ≡ word_at a.words

@@ -1,7 +1,7 @@
 -- Outside the headline. What stores make of level 2's words, by their numbers, and what they leave alone.
 -- What is stored is said by the definitions of the modules (`Modules.antt`), which have the words by their
 -- names, as public contracts do.
-use Rattle.std.specs.Prelude.{◌≡◌, ℕ, ◌+◌, ◌-◌, Bool, true, ◌==◌, if◌then◌else◌, List, [], ◌∷◌, ◌++◌, take, slice_index, Result, OnOk, OnErr, IfOk}
+use Rattle.std.specs.Prelude.{◌≡◌, ℕ, ◌+◌, ◌-◌, Bool, true, ◌&&◌, ◌==◌, if◌then◌else◌, List, [], ◌∷◌, ◌++◌, take, slice_index, Result, OnOk, OnErr, IfOk}
 use Rattle.eg_guard.specs.Regions.{region_of}
 use Rattle.eg_guard.specs.Memory.{ShownMemory, KeepsMemory}
 use Rattle.eg_num.specs.declared.watches.Watches.{Watches}
@@ -105,6 +105,12 @@ found_of feeds = record no_watches {
   speed = feeds.speed.found;
   torque = feeds.torque.found;
 }
+
+-- all counters stand at 0, and nothing bad is fed: no feed changes one
+unfoldable pub is_still : Words → Bool
+is_still words =
+    words.pairs == 0 && words.excess == 0 && words.pedal_counter == 0 && words.plate_counter == 0
+    && words.load_counter == 0 && words.speed_counter == 0 && words.torque_counter == 0
 
 -- the stores of the counters' values
 unfoldable pub counting : Feeds → List Store

@@ -1,9 +1,9 @@
 // Module 6: the signals are debounced, and what is confirmed for the first time is found.
 ghost use Rattle.std.specs.Prelude.{◌≡◌, ◌≤◌, ◌&&◌, nat_lt};
 ghost use Rattle.eg_sensor.specs.Readings.{has_bit};
-ghost use Rattle.eg_level2.specs.Words.{words_of, AreWithin};
+ghost use Rattle.eg_level2.specs.Words.{words_of, AreMirrored, AreWithin};
 ghost use Rattle.eg_level2.specs.Modules.{feeds_now, debounced, trips, finding};
-ghost use Rattle.eg_level2.specs.Stores.{Makes, RunMakes, fed_of, feeds_of, found_of, counting, fed_stores};
+ghost use Rattle.eg_level2.specs.Stores.{Makes, RunMakes, fed_of, feeds_of, found_of, counting, fed_stores, is_still};
 ghost use Rattle.eg_level2.specs.Order.{debounce_stores};
 
 use crate::step::no_watches;
@@ -38,20 +38,21 @@ struct Feeds {
 /// Module 6: debounces the pairs and the excess, but not in a test, nor where a trip stands. A pedal that is
 /// found limits the operation; any other watch that is found trips (docs/CONCEPT.md, "Level 2"). A trip and
 /// limited operation are stored before the counters: where memory runs out, no counter stands at its limit
-/// without them.
+/// without them. If all counters stand at 0 and nothing bad is fed, the token alone is stored.
 #[inline(always)]
 pub(crate) fn debounce<M: Guarded>(
     memory: &mut M,
     rules: &Rules,
     phase: Phase,
 ) -> Result<Step, NoMemory>
-    requires { AreWithin rules.now (words_of (M.shows memory.old).words) }
+    requires within { AreWithin rules.now (words_of (M.shows memory.old).words) }
+    requires mirrored { AreMirrored (M.shows memory.old).words }
     ensures { RunMakes (debounce_stores rules.now phase (words_of (M.shows memory.old).words))
         (finding (debounced rules.now phase (words_of (M.shows memory.old).words)))
         (M.shows memory.old) (M.shows memory.new) result }
 {
     let token = next_token(word(memory, TOKEN), eg_answer::DEBOUNCE);
-    if !feeds_now(memory, phase) {
+    if !feeds_now(memory, phase) || is_still(memory) {
         keep(memory, TOKEN, token)?;
         return Ok(Step::quiet());
     }
@@ -66,6 +67,21 @@ fn feeds_now<M: Guarded>(memory: &M, phase: Phase) -> bool
     ensures { result ≡ feeds_now phase (words_of (M.shows memory.now).words) }
 {
     phase.feeds() && !is_set(word(memory, TRIP))
+}
+
+/// Whether all counters stand at 0 and nothing bad is fed, so that no feed changes one. Mostly it is so.
+#[inline(always)]
+#[tactic(auto, unfolding(crate::specs::Words::named, crate::specs::Stores::is_still))]
+fn is_still<M: Guarded>(memory: &M) -> bool
+    ensures { result ≡ is_still (words_of (M.shows memory.now).words) }
+{
+    (word(memory, PAIRS) == 0)
+        & (word(memory, EXCESS) == 0)
+        & (word(memory, PEDAL_COUNTER) == 0)
+        & (word(memory, PLATE_COUNTER) == 0)
+        & (word(memory, LOAD_COUNTER) == 0)
+        & (word(memory, SPEED_COUNTER) == 0)
+        & (word(memory, TORQUE_COUNTER) == 0)
 }
 
 /// One feed of a counter.

@@ -56,9 +56,10 @@ fn out_of_memory_is_told_and_stays(rt: HostRuntime) -> Result<(), Fail> {
     for refuse in 0..40 {
         assert!(rt; controller(refuse).is_err(), "store {refuse}");
     }
-    // A tick takes 11 stores of the board and 54 of level 2; in the first one level 1 makes two more.
-    for refuse in 40..=237 {
-        let wanted = [refuse >= 107, refuse >= 172, refuse >= 237];
+    // A tick takes 11 stores of the board and, where no counter changes, 44 of level 2; in the first one
+    // level 1 makes two more.
+    for refuse in 40..=207 {
+        let wanted = [refuse >= 97, refuse >= 152, refuse >= 207];
         assert!(rt; made(refuse)? == wanted, "store {refuse}");
     }
     Ok(())
