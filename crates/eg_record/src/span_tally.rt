@@ -53,7 +53,10 @@ impl SpanTally {
         self.span_reactions(end).and(&self.ended)
     }
 
-    /// The span ends before this tick.
+    /// The span ends before this tick. It isn't inlined, since few rows end one: so a tally that is fed stays
+    /// in memory, and a row changes there what it must.
+    #[cold]
+    #[inline(never)]
     #[tactic(auto, unfolding(crate::specs::RowMore::ended_at))]
     fn end(&mut self, end: u32)
         ensures { self.new ≡ ended_at end self.old }
