@@ -1,6 +1,6 @@
 -- A slice wakes level 1's machine and does as many steps as its budget says, and a call for it changes no
 -- word outside level 1's own regions.
-use Rattle.std.specs.Prelude.{◌≡◌, ℕ, zero, suc, ◌<◌, Result, OnOk, OnErr}
+use Rattle.std.specs.Prelude.{◌≡◌, ℕ, zero, suc, ◌+◌, ◌<◌, List, [], ◌∷◌, Result, OnOk, OnErr}
 use Rattle.eg_guard.specs.Memory.{ShownMemory, SameOutside, KeepsMemory}
 use Rattle.eg_word.specs.declared.registers.Trap.{Trap}
 use Rattle.eg_word.specs.declared.registers.State.{State}
@@ -27,6 +27,12 @@ steps (suc count) view world = steps count view (world_step view world)
 -- the world after a slice: its machine is woken, and then does as many steps as the budget says
 abbrev pub world_slice : View → ℕ → World → World
 world_slice view budget world = steps budget view (record world { registers = slice_start world.registers })
+
+-- the world after slice j and those after it, where `view j` is what slice j is shown
+unfoldable pub slices_from : ℕ → (ℕ → View) → List ℕ → World → World
+slices_from j view [] world = world
+slices_from j view (budget ∷ budgets) world =
+    slices_from (j + 1) view budgets (world_slice (view j) budget world)
 
 -- A call for a slice of this budget, over a memory that shows a view, makes a slice of level 1's private
 -- world with that view; NoMemory, which never comes over a sure memory, ends it after fewer steps. No word

@@ -20,7 +20,8 @@ use Rattle.eg_fault.specs.declared.class.Fault.{Fault}
 use Rattle.eg_model.specs.History.{Entry, Signals, Moment}
 use Rattle.eg_model.specs.Signals.{last_signals}
 use Rattle.eg_sensor.specs.declared.readings.Readings.{Readings}
-use Rattle.eg_model.specs.Level1.{last_world, view_in, slices_from, world_at}
+use Rattle.eg_host.specs.Slices.{slices_from}
+use Rattle.eg_model.specs.Level1.{last_world, view_in, world_at}
 use Rattle.eg_model.specs.Moments.{moment_in}
 use Rattle.eg_model.specs.Spans.{span_so_far, has_passed, before_at, moment_at, next_after}
 use Rattle.eg_model.specs.Engines.{BenchEngine, gasoline, diesel, bench_of}

@@ -12,7 +12,7 @@ use Rattle.eg_guard.specs.Regions.{region_of, allows, access}
 use Rattle.eg_word.specs.Instructions.{signed, instruction_with}
 use Rattle.eg_word.specs.Machine.{reg, next, beyond, load_into, store_at, effect, step_in}
 use Rattle.eg_word.specs.World.{new_registers, new_world, sight_in, sight, after_store_in, after_store, after_step, world_step}
-use Rattle.eg_host.specs.Slices.{wake, steps}
+use Rattle.eg_host.specs.Slices.{wake, steps, slices_from}
 use Rattle.eg_plant.specs.Gasoline.{at_rest, next_plate, next_charge, torque_of, gasoline_step}
 use Rattle.eg_fault.specs.Effects.{no_effects, readings_under, contacts_under, sends_in, sends_at}
 use Rattle.eg_fault.specs.Faults.{offset_by, in_turn, truth_in_turn, is_left_out, effects_of, effects}
@@ -30,7 +30,7 @@ use Rattle.eg_model.specs.Detection.{pedal_bit, plate_bit, load_bit, speed_bit, 
 use Rattle.eg_answer.specs.Modules.{modules_before_react, modules}
 use Rattle.eg_model.specs.Answers.{is_whole, is_undisturbed, is_answer, whole_since_answer, is_sent, is_good, mark_at, with_answer, answers_in, verdict_at, verdicts_in, confirms_at}
 use Rattle.eg_model.specs.Paths.{is_testing, is_told_to_open, reads_back, orders_open, latch1, latch2, path1_at, path2_at, both_conduct}
-use Rattle.eg_model.specs.Level1.{last_world, ports_of, seen, seen_signals, view_in, slices_from, world_at}
+use Rattle.eg_model.specs.Level1.{last_world, ports_of, seen, seen_signals, view_in, world_at}
 use Rattle.eg_model.specs.Moments.{effective_drive, is_braking, sensed_at, readings_at, demand_at, last_limit, limit_at, moment_in, moments_in, moment, moments_of}
 use Rattle.eg_model.specs.Spans.{span_so_far, span_kind, has_passed, kind_at, before_at, moment_at, next_after, moments, ticks}
 use Rattle.eg_model.specs.Engines.{gasoline}

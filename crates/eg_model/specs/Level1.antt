@@ -1,9 +1,9 @@
 -- At each tick level 1 runs a slice before each module of level 2 and one after the last, and is shown in it
 -- the signals as they then are.
-use Rattle.std.specs.Prelude.{ℕ, ◌+◌, Bool, ◌&&◌, is_some, nat_le, nat_lt, List, [], ◌∷◌, ◌++◌, if◌then◌else◌}
+use Rattle.std.specs.Prelude.{ℕ, Bool, ◌&&◌, is_some, nat_le, nat_lt, List, [], ◌∷◌, ◌++◌, if◌then◌else◌}
 use Rattle.eg_sensor.specs.declared.readings.Readings.{Readings}
 use Rattle.eg_word.specs.World.{View, World, new_world}
-use Rattle.eg_host.specs.Slices.{world_slice}
+use Rattle.eg_host.specs.Slices.{slices_from}
 use Rattle.eg_answer.specs.declared.modules.TheConstants.{PEDAL, PERMITTED, ACTUAL, EXCESS, PAIRS}
 use Rattle.eg_fault.specs.Effects.{Effects}
 use Rattle.eg_model.specs.History.{Signals, Moment}
@@ -43,12 +43,6 @@ view_in image x reads before now j = record {
   ports = ports_of reads;
   results = seen_signals (is_some x.flip) j before now;
 }
-
--- the world after slice j and those after it, where `view j` is what slice j is shown
-unfoldable pub slices_from : ℕ → (ℕ → View) → List ℕ → World → World
-slices_from j view [] world = world
-slices_from j view (budget ∷ budgets) world =
-    slices_from (j + 1) view budgets (world_slice (view j) budget world)
 
 -- the world after a tick
 unfoldable pub world_at : List ℕ → Effects → List ℕ → Readings → Signals → List Moment → World

@@ -24,9 +24,9 @@ use Rattle.eg_agree.specs.Ticking.{IsTick, found_in_level2}
 use Rattle.eg_agree.specs.Replies.{moment_after}
 use Rattle.eg_agree.proofs.HistoryLemmas.{start_law}
 use Rattle.eg_agree.proofs.TickLemmas.{tick_law}
-use Rattle.eg_tick.specs.Board.{by_tracks}
-use Rattle.eg_tick.proofs.FrameLemmas.{level2_leaves, set-stays}
-use Rattle.eg_tick.specs.Midway.{Work}
+use Rattle.eg_turns.specs.Board.{by_tracks}
+use Rattle.eg_turns.proofs.FrameLemmas.{level2_leaves, set-stays}
+use Rattle.eg_turns.specs.Midway.{Work, signals_in}
 use Rattle.eg_model.specs.Level1.{last_world}
 use Rattle.eg_readings.specs.declared.recorded.Recorded.{Recorded}
 use Rattle.eg_replay.specs.Replay.{tracks_of, effects_of, entry_of, tick_of, alone, replayed, given_readings, counters_after, told_at, told_after}
@@ -219,9 +219,9 @@ module _ (cal : CalibrationParts) (parts : Level2Parts) (r : Recorded) (given : 
       ∙ ap (finds_at (meeting parts (readings_at cal (effects_of r) (entry_of r)) 0 tick)) fed.words
       ∙ finds-follow cal fed.accepted r seen (words_of old) stands parts fed.rules 0 tick
 
-  pub fed-told : (signals : List ℕ) (counters : Counters) → signals ≡ signal_list (signals_of (words_of new)) → counters ≡ counters_kept (words_of new)
+  pub fed-told : (signals : List ℕ) (counters : Counters) → signals ≡ signals_in (words_of new) → counters ≡ counters_kept (words_of new)
       → (let told : TickSignals = record { signals = signals; counters = counters; found = found } in told ≡ told_after cal r seen)
-  unfolding told_at counters_kept counters_after moments_in last_signals
+  unfolding told_at counters_kept counters_after moments_in last_signals signals_in signals_of signal_list
   fed-told signals counters are kept = λ i. record {
     signals = (are ∙ ap signal_list fed-stands.signals) i;
     counters = (kept ∙ (λ k. record {

@@ -7,14 +7,14 @@ ghost use Rattle.eg_level2.specs.Words.{Words, words_of, AreMirrored, AreWithin}
 ghost use Rattle.eg_level2.specs.Inputs.{IsPrepared, readings_of, asked_of};
 ghost use Rattle.eg_level2.specs.Modules.{found_by};
 ghost use Rattle.eg_level2.specs.Ticks.{after_modules, after_tick, finds_at, inputs_for};
-ghost use Rattle.eg_tick.specs.Board.{by_tracks};
+ghost use Rattle.eg_turns.specs.Board.{by_tracks};
 ghost use Rattle.eg_replay.specs.Running.{meeting, HasRun};
 
 use eg_guard::FlatMemory;
 use eg_level2::{Level2, Phase, Prepared};
 use eg_num::Watches;
 use eg_sensor::Readings;
-use eg_tick::show;
+use eg_turns::show;
 
 /// Writes the readings to the input ports, as the board does. The number of the question is 0.
 pub(crate) fn show_readings(memory: &mut FlatMemory, readings: &Readings)

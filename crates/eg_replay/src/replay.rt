@@ -11,7 +11,7 @@ use eg_guard::FlatMemory;
 use eg_level2::{Level2, Lookup, Prepared};
 use eg_readings::Recorded;
 use eg_sensor::{Readings, gate, pressed};
-use eg_tick::{signals, word};
+use eg_turns::{signals, word};
 use eg_values::Calibration;
 use std::marker::Model;
 

@@ -14,7 +14,7 @@ use Rattle.eg_fault.specs.Faults.{effects, IsNoneOrValid}
 use Rattle.eg_fault.specs.Classes.{IsHeldWithin}
 use Rattle.eg_fault.proofs.ClassLemmas.{plates_are_held_within}
 use Rattle.eg_values.specs.Calibration.{IsAccepted}
-use Rattle.eg_guard.specs.Memory.{ShownMemory, AreWords}
+use Rattle.eg_guard.specs.Memory.{ShownMemory, AreWords, KeepsMemory}
 use Rattle.eg_guard.proofs.KeepsLemmas.{clash}
 use Rattle.eg_word.specs.declared.registers.Registers.{Registers}
 use Rattle.eg_word.specs.World.{World, world_of}
@@ -44,7 +44,7 @@ use Rattle.eg_tick.specs.declared.monitoring.Judgement.{Judgement}
 use Rattle.eg_tick.specs.declared.paths.Paths.{Paths}
 use Rattle.eg_tick.specs.declared.span.SpanTick.{SpanTick}
 use Rattle.eg_tick.specs.declared.span.Span.{Span}
-use Rattle.eg_tick.specs.declared.working.Task.{Task}
+use Rattle.eg_turns.specs.declared.working.Task.{Task}
 use Rattle.eg_tick.proofs.MonitorLemmas.{span-period, span-later, span-asked}
 use Rattle.eg_tick.proofs.StandsLemmas.{Enters, entered, ComesIn, enters, Leads, next-on, Makes, row_by, next_row}
 
@@ -223,6 +223,27 @@ unmade result is shown fault cal keeps lost rests ticks trap sure stays_sure ste
   same_or_begun = at_err result begun;
 }
 
+-- The same from what memory ran out in: `before` is the controller as it was, and its span, level 1's machine, memory and engine are these then.
+pub ran_out : {E X T F : Type 0} {shows : E → Shown} {steps : E → ℕ → ℕ → Bool → Option ℕ → E → Type 0} {drive : DriveRow} {slices : List ℕ}
+    {before old : ControllerParts E} {engine : E} {span : Span} {m : Registers} {memory : ShownMemory} {kt : ℕ} {shown : Shown} {e : F} (result : Result Row X)
+    → IsErr result → before ≡ old → before.kept.lost ≡ false → IsController before.kept → shown ≡ shows engine
+    → (let refused : Result T F = Err e in KeepsMemory before.kept.memory memory refused)
+    → ((s : Setting) (h : List Entry) → Stands s old.kept h → StaysOrSteps steps s drive slices shown h old.engine engine)
+    → StaysOrBegins drive.reset old.kept.span span
+    → IsTick shows steps drive slices old
+        (record { engine = engine; kept = record before.kept { span = span; memory = memory; registers = m; kt = kt; shown = shown; lost = true } }) result
+ran_out {memory = memory} result is same held keeps shown memory_keeps stepped begun =
+    unmade result is shown (ap (λ c. c.kept.fault) same) (ap (λ c. c.kept.cal) same)
+    (record { accepted = keeps.accepted; fault = keeps.fault; stands = λ not_lost. absurd (clash (sym not_lost)); unsure = λ lost. unsure memory.sure refl })
+    refl (λ lost. absurd (clash (sym held ∙ ap (λ c. c.kept.lost) same ∙ lost)))
+    (ap (λ c. c.kept.ticks) same) (ap (λ c. c.kept.trap) same)
+    (λ sure. absurd (clash (memory_keeps.sure (ap (λ c. c.kept.memory.sure) same ∙ sure))))
+    (memory_keeps.stays_sure ∙ ap (λ c. c.kept.memory.sure) same) stepped begun
+  where
+    unsure : (sure : Bool) → memory.sure ≡ sure → memory.sure ≡ false
+    unsure false is = is
+    unsure true is = absurd (clash (memory_keeps.sure (sym memory_keeps.stays_sure ∙ is)))
+
 pub refused : {E X : Type 0} {shows : E → Shown} {steps : E → ℕ → ℕ → Bool → Option ℕ → E → Type 0} {drive : DriveRow} {slices : List ℕ} {old new : ControllerParts E} {x : X}
     (result : Result Row X) → IsErr result → (let refused : Result Row X = Err x in IsTick shows steps drive slices old new refused)
     → IsTick shows steps drive slices old new result
@@ -272,6 +293,13 @@ pub record Advance (old new : Kept) (drive : DriveRow) (budgets : List ℕ) (und
   pub off : paths.on ≡ false → new.shown.torque ≡ 0
   pub trap : new.trap ≡ option_or old.trap (trap_in new.registers.state old.ticks)
   pub not_lost : new.lost ≡ false
+
+-- the same with the controller's own fault
+pub settled : {old new : Kept} {drive : DriveRow} {budgets : List ℕ} {under : Option Fault} {made : Level2Parts} {paths : Paths} {span_tick : SpanTick} {task : Task}
+    {done : Step} {judged : Judgement} → under ≡ old.fault → Advance old new drive budgets under made paths span_tick task done judged
+    → Advance old new drive budgets old.fault made paths span_tick task done judged
+settled {old} {new} {drive} {budgets} {under} {made} {paths} {span_tick} {task} {done} {judged} same =
+    subst (λ fault. Advance old new drive budgets fault made paths span_tick task done judged) same
 
 module _ (old new : Kept) (drive : DriveRow) (budgets : List ℕ) (made : Level2Parts) (paths : Paths) (span_tick : SpanTick) (task : Task) (done : Step)
     (judged : Judgement) (advance : Advance old new drive budgets old.fault made paths span_tick task done judged) (image : List ℕ) (h : List Entry)

@@ -25,6 +25,7 @@ use Rattle.eg_model.proofs.SpanLemmas.{length-run_moments, tick_after, ticks_bef
 use Rattle.eg_agree.specs.Standing.{signals_of}
 use Rattle.eg_agree.specs.Ticking.{found_in_level2}
 use Rattle.eg_agree.specs.Replies.{moment_after}
+use Rattle.eg_turns.specs.Midway.{signals_in}
 use Rattle.eg_tick.specs.Kept.{Kept}
 use Rattle.eg_tick.specs.Stands.{kind_of, HoldsLatches, HoldsMonitor, HoldsSpan, HoldsEngine, IsShown, Stands}
 use Rattle.eg_tick.specs.Entering.{kind_from, ticks_from}
@@ -130,7 +131,7 @@ row_by tick drive new paths span_tick step judgement = record {
   path1 = paths.path1;
   path2 = paths.path2;
   on = paths.on;
-  signals = signal_list (signals_of (words_of new.memory.words));
+  signals = signals_in (words_of new.memory.words);
   throttle = slice_index new.memory.words 2064;
   ignition = slice_index new.memory.words 2065;
   found = record step.found {
@@ -263,7 +264,7 @@ module _ (kind : SpanKind) (s : Setting) (x : Tick) (h : List Tick) (old new : K
       ∙ sym ((fields_in kind s x.effects x.entry past).answers)
 
   pub row-is : (row : Row) → row ≡ row_by old.ticks x.entry.drive new paths span_tick step judgement → row ≡ row_of old.ticks m
-  unfolding row_of world_of
+  unfolding row_of world_of signals_in signals_of signal_list
   row-is row is = is ∙ (λ i. record {
     tick = old.ticks;
     drive = ap (λ (e : Entry). e.drive) entered-is i;

@@ -1,27 +1,54 @@
 -- After all slices and modules of a tick the memory holds the world and the words of the model's tick.
-use Rattle.std.proofs.Common.{◌≡◌, ◌∙◌, refl, sym, ap, subst, ℕ, ◌+◌, ◌≤◌, ◌<◌, Bool, true, false, List, [], ◌∷◌, length, arith}
+use Rattle.std.proofs.Common.{◌≡◌, ◌∙◌, refl, sym, ap, ap₂, subst, ℕ, ◌+◌, ◌≤◌, ◌<◌, Bool, true, false, List, [], ◌∷◌, length, arith}
 use Rattle.std.specs.Prelude.{if◌then◌else◌}
 use Rattle.eg_word.specs.declared.registers.Registers.{Registers}
-use Rattle.eg_word.specs.World.{View, World, world_of}
-use Rattle.eg_host.specs.Slices.{world_slice}
+use Rattle.eg_word.specs.World.{View, World}
+use Rattle.eg_host.specs.Slices.{world_slice, slices_from}
 use Rattle.eg_values.specs.Calibration.{IsAccepted}
 use Rattle.eg_level2.specs.Words.{Words, AreMirrored, words_of}
-use Rattle.eg_level2.specs.Ticks.{after_modules}
-use Rattle.eg_model.specs.History.{Setting, Tick, SpanKind, Moment}
+use Rattle.eg_level2.specs.Ticks.{after_tick}
+use Rattle.eg_fault.specs.Effects.{Effects, readings_under}
+use Rattle.eg_sensor.specs.Brake.{gated}
+use Rattle.eg_sensor.specs.declared.readings.Readings.{Readings}
+use Rattle.eg_values.specs.Calibration.{CalibrationParts}
+use Rattle.eg_model.specs.History.{Setting, Entry, Tick, SpanKind, Moment}
 use Rattle.eg_model.specs.Signals.{last_signals}
 use Rattle.eg_model.specs.Premises.{Follows}
-use Rattle.eg_model.specs.Level1.{last_world, ports_of, slices_from, view_in, world_at}
-use Rattle.eg_model.specs.Moments.{readings_at, moments_in}
+use Rattle.eg_model.specs.Level1.{last_world, ports_of, view_in, world_at}
+use Rattle.eg_model.specs.Moments.{is_braking, sensed_at, readings_at, moments_in}
+use Rattle.eg_model.specs.Rows.{signal_list}
 use Rattle.eg_agree.specs.Doings.{doing_at}
-use Rattle.eg_agree.specs.Standing.{KeepsWords}
+use Rattle.eg_agree.specs.Standing.{signals_of, KeepsWords}
 use Rattle.eg_agree.specs.Ticking.{IsTick}
 use Rattle.eg_fault.specs.Faults.{IsNoneOrValid}
 use Rattle.eg_agree.specs.Replies.{doing_after, words_over, moment_after}
 use Rattle.eg_agree.proofs.WholeRuns.{words_stand, is_tick_over, last_checks_stand, words_rest}
 use Rattle.eg_tick.specs.Stands.{HoldsLevel1, HoldsLevel2}
-use Rattle.eg_tick.specs.Midway.{Work, view_at, rest_of, IsSet, IsMidway, work_at}
-use Rattle.eg_tick.proofs.MidwayLemmas.{all-words, all-world}
+use Rattle.eg_tick.specs.Working.{work_at}
+use Rattle.eg_turns.specs.Board.{by_tracks, ten_ports}
+use Rattle.eg_turns.specs.Midway.{Work, signals_in, view_at, rest_of}
+use Rattle.eg_turns.specs.Working.{Holds}
 use Rattle.eg_model.proofs.TickLemmas.{fields_in}
+
+-- ---- what slices are shown ----
+
+-- the readings of a tick have two tracks of each pair, gated or not
+pub tracks-are : (cal : CalibrationParts) (x : Effects) (e : Entry) → by_tracks (readings_at cal x e) ≡ readings_at cal x e
+unfolding by_tracks readings_at sensed_at readings_under
+tracks-are cal x e = go (is_braking cal x e.drive)
+  where
+    go : (pressed : Bool) → by_tracks (if pressed then gated (sensed_at x e) else sensed_at x e)
+        ≡ (if pressed then gated (sensed_at x e) else sensed_at x e)
+    go true = refl
+    go false = refl
+
+in_order : (r : Readings) → ten_ports r ≡ ports_of (by_tracks r)
+unfolding ports_of by_tracks
+in_order r = refl
+
+-- so the ports hold them in the order of the model
+ports-are : (cal : CalibrationParts) (x : Effects) (e : Entry) → ten_ports (readings_at cal x e) ≡ ports_of (readings_at cal x e)
+ports-are cal x e = in_order (readings_at cal x e) ∙ ap ports_of (tracks-are cal x e)
 
 -- ---- level 1's world ----
 
@@ -68,26 +95,24 @@ module _ (kind : SpanKind) (s : Setting) (accepted : IsAccepted s.cal) (begin : 
 
   view-is : (j : ℕ) → j ≤ 8
       → view_at w j ≡ view_in s.image x.effects (readings_at s.cal x.effects x.entry) (last_signals past) (moment_after kind s x h).signals j
-  unfolding view_at view_in work_at doing_after doing_at
-  view-is j within = ap (λ results. record { image = s.image; ports = ports_of (readings_at s.cal x.effects x.entry); results = results }) (tick.seen j within)
+  unfolding view_at view_in work_at doing_after doing_at signals_in signal_list signals_of
+  view-is j within = ap₂ (λ ports results. record { image = s.image; ports = ports; results = results })
+      (ports-are s.cal x.effects x.entry) (tick.seen j within)
 
   -- the slices make the model's world
   pub world-is : length x.entry.slices ≡ 9 → rest_of w 0 w.world ≡ (moment_after kind s x h).world
   unfolding rest_of work_at world_at
   world-is nine = tick-same x.effects.level1 (view_at w) _ x.entry.slices (last_world past) nine view-is ∙ sym ((fields_in kind s x.effects x.entry past).world)
 
-  -- ---- what the memory holds as the tick begins, and after it ----
+  -- ---- what the memory holds after it ----
 
-  pub begins : (m : Registers) (memory : List ℕ) → IsSet w memory → AreMirrored memory → words_of memory ≡ words_over kind s h
-      → world_of m memory ≡ last_world past → IsMidway w 0 0 m memory
-  unfolding after_modules work_at
-  begins m memory set mirrored same world = record { set = set; mirrored = mirrored; words = same; world = ap (rest_of w 0) world }
-
-  pub level1-next : (m : Registers) (memory : List ℕ) → length x.entry.slices ≡ 9 → IsMidway w 9 8 m memory → HoldsLevel1 s m memory (moments_in kind s (x ∷ h))
+  pub level1-next : (m : Registers) (memory : List ℕ) → length x.entry.slices ≡ 9 → Holds w.image (after_tick w.doing w.words) (rest_of w 0 w.world) m memory
+      → HoldsLevel1 s m memory (moments_in kind s (x ∷ h))
   unfolding last_world moments_in work_at
-  level1-next m memory nine is = record { code = is.set.code; world = all-world w 8 m memory nine is ∙ world-is nine }
+  level1-next m memory nine is = record { code = is.code; world = is.world_is ∙ world-is nine }
 
-  pub level2-next : (m : Registers) (memory : List ℕ) → IsNoneOrValid s.fault → length h < 65535 → IsMidway w 9 8 m memory → HoldsLevel2 kind s memory (x ∷ h)
+  pub level2-next : (m : Registers) (memory : List ℕ) → IsNoneOrValid s.fault → length h < 65535
+      → Holds w.image (after_tick w.doing w.words) (rest_of w 0 w.world) m memory → HoldsLevel2 kind s memory (x ∷ h)
   unfolding words_over work_at
   level2-next m memory valid short is =
-      holds_level2 kind s accepted valid begin (x ∷ h) follows (omega arith) memory is.mirrored (all-words w 9 m memory is)
+      holds_level2 kind s accepted valid begin (x ∷ h) follows (omega arith) memory is.mirrored is.words_are

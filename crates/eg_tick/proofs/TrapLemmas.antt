@@ -6,10 +6,10 @@ use Rattle.eg_word.specs.declared.registers.State.{State}
 use Rattle.eg_word.specs.declared.registers.State.TheVariants.{Running, Waiting, Trapped}
 use Rattle.eg_word.specs.Machine.{step_in}
 use Rattle.eg_word.specs.World.{View, World, world_step, after_step, after_store, sight}
-use Rattle.eg_host.specs.Slices.{wake, steps, slice_start, world_slice}
+use Rattle.eg_host.specs.Slices.{wake, steps, slice_start, world_slice, slices_from}
 use Rattle.eg_fault.specs.Faults.{effects}
 use Rattle.eg_model.specs.History.{Setting, Entry}
-use Rattle.eg_model.specs.Level1.{last_world, slices_from, world_at}
+use Rattle.eg_model.specs.Level1.{last_world, world_at}
 use Rattle.eg_model.specs.Spans.{kind_at, before_at, moment_at, next_after, moments, next}
 use Rattle.eg_record.specs.declared.row.Row.{Row}
 use Rattle.eg_model.specs.Rows.{row_of}

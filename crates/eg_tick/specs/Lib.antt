@@ -2,8 +2,6 @@ pub mod Weights
 pub mod Counting
 pub mod Kept
 pub mod Stands
-pub mod Board
-pub mod Midway
 pub mod Working
 pub mod Judging
 pub mod Entering

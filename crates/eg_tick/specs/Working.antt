@@ -1,4 +1,4 @@
--- Outside the headline. What level 1 and level 2 are handed at a tick, and what comes of it.
+-- Outside the headline. What level 1 and level 2 are handed at a tick of a run, and what comes of it.
 use Rattle.std.specs.Prelude.{◌≡◌, ℕ, ◌+◌, ◌<◌, Option, List, ◌∷◌, length}
 use Rattle.eg_fault.specs.declared.class.Fault.{Fault}
 use Rattle.eg_fault.specs.Effects.{asked_at}
@@ -8,12 +8,25 @@ use Rattle.eg_level2.specs.Inputs.{Level2Parts}
 use Rattle.eg_level2.specs.declared.step.Step.{Step}
 use Rattle.eg_model.specs.History.{Setting, Tick, SpanKind}
 use Rattle.eg_model.specs.Premises.{Follows}
+use Rattle.eg_model.specs.Level1.{last_world}
 use Rattle.eg_model.specs.Moments.{readings_at, moments_in}
 use Rattle.eg_agree.specs.Doings.{phase_at}
 use Rattle.eg_agree.specs.Ticking.{found_in_level2}
-use Rattle.eg_agree.specs.Replies.{moment_after, number_expected, mark_of}
-use Rattle.eg_tick.specs.declared.working.Task.{Task}
+use Rattle.eg_agree.specs.Replies.{doing_after, words_over, moment_after, number_expected, mark_of}
+use Rattle.eg_turns.specs.Midway.{Work}
+use Rattle.eg_turns.specs.declared.working.Task.{Task}
 use Rattle.eg_tick.specs.Stands.{HoldsLevel1, HoldsLevel2}
+
+-- the work of tick x, which comes after h in a span of this kind
+unfoldable pub work_at : SpanKind → Setting → Tick → List Tick → Work
+work_at kind s x h = record {
+  image = s.image;
+  doing = doing_after kind s x h;
+  words = words_over kind s h;
+  level1 = x.effects.level1;
+  slices = x.entry.slices;
+  world = last_world (moments_in kind s h);
+}
 
 -- the task of tick x, which comes after h in a span of this kind
 pub record IsTask (kind : SpanKind) (s : Setting) (x : Tick) (h : List Tick) (task : Task) : Type 0 where

@@ -15,26 +15,24 @@ ghost use Rattle.eg_tick.specs.Margins.{counters_in_run};
 ghost use Rattle.eg_tick.specs.Weights.{weight_of};
 
 use crate::Slices;
-use crate::board::load_image;
 use crate::monitoring::{judge, question};
 use crate::paths::Paths;
 use crate::plant::{readings, step_engine};
 use crate::row::{Beginning, demand, effective, look_up, row};
 use crate::span::{Span, enter};
 use crate::weighing::counters;
-use crate::working::{Level1, Task, work};
 use eg_base::NoMemory;
 use eg_fault::{Fault, held};
 use eg_guard::Guarded;
-use eg_host::Host;
 use eg_level2::{Level2, Lookup};
 use eg_module::{Monitor, test_ticks};
 use eg_num::Drive;
 use eg_plant::Engine;
 use eg_record::{Counters, Row};
 use eg_torque::ramped;
+use eg_turns::{Level1, Task, set_up, work};
 use eg_values::Calibration;
-use eg_word::{Program, State, Trap};
+use eg_word::{State, Trap};
 use std::marker::Model;
 
 mod branching;
@@ -126,10 +124,8 @@ impl<E: Engine + Drop, M: Guarded + Drop> Controller<E, M> {
         ensures sure { IsTrue (M.shows memory).sure → IsOk result }
     {
         let mut memory = memory;
-        load_image(&mut memory, image)?;
         let level2 = Level2::new(calibration.rules().copy(), calibration.questions().copy());
-        level2.reset(&mut memory)?;
-        let program = Program::new(image);
+        let level1 = set_up(&level2, image, &mut memory)?;
         let test_ticks = test_ticks(calibration.times());
         let lookup = Lookup::new(calibration.rules(), 0, 0);
         let monitor = Monitor::new(calibration.times().copy(), calibration.questions().copy());
@@ -140,10 +136,7 @@ impl<E: Engine + Drop, M: Guarded + Drop> Controller<E, M> {
             level2,
             test_ticks,
             span,
-            level1: Level1 {
-                host: Host::new(),
-                program,
-            },
+            level1,
             memory,
             engine,
             ticks: 0,

@@ -8,33 +8,12 @@ ghost use Rattle.eg_values.specs.Calibration.{CalibrationParts};
 ghost use Rattle.eg_model.specs.History.{Entry};
 ghost use Rattle.eg_model.specs.Moments.{is_braking, sensed_at, readings_at};
 
-use crate::board::load;
 use eg_fault::{Fault, faulty_contacts, faulty_readings};
-use eg_guard::{Guarded, IGNITION, THROTTLE};
+use eg_guard::Guarded;
 use eg_num::Drive;
 use eg_plant::Engine;
 use eg_sensor::{Readings, contacts, gate, pressed, sound};
-
-/// Level 1's outputs, its commands to the throttle plate and to the ignition, as they stand in the memory.
-#[derive(Clone, Copy)]
-pub(crate) struct Outputs {
-    pub(crate) throttle: u16,
-    pub(crate) ignition: u16,
-}
-
-impl Outputs {
-    /// Those that stand now.
-    #[tactic(auto, using(crate::proofs::BoardLemmas::board))]
-    pub(crate) fn of<M: Guarded>(memory: &M) -> Outputs
-        ensures throttle { result.throttle ≡ slice_index (M.shows memory.now).words THROTTLE }
-        ensures ignition { result.ignition ≡ slice_index (M.shows memory.now).words IGNITION }
-    {
-        Outputs {
-            throttle: load(memory, THROTTLE),
-            ignition: load(memory, IGNITION),
-        }
-    }
-}
+use eg_turns::Outputs;
 
 /// One step of the engine, by level 1's commands as the tick before left them (docs/CONCEPT.md, "Plant").
 #[inline(always)]

@@ -3,28 +3,25 @@ ghost use Rattle.std.specs.Prelude.{◌≡◌, ◌<◌, not, ◌&&◌, ◌||◌,
 ghost use Rattle.eg_guard.specs.declared.regions.TheConstants.{THROTTLE, IGNITION};
 ghost use Rattle.eg_num.specs.Drive.{IsDrive};
 ghost use Rattle.eg_num.specs.Interpolation.{grid_at};
-ghost use Rattle.eg_answer.specs.declared.words.TheConstants.{STORED_WORDS};
 ghost use Rattle.eg_level2.specs.Inputs.{IsLookup};
-ghost use Rattle.eg_level2.specs.Words.{word_at, words_of};
+ghost use Rattle.eg_level2.specs.Words.{words_of};
 ghost use Rattle.eg_torque.specs.Permit.{drive_permits};
 ghost use Rattle.eg_values.specs.Calibration.{CalibrationParts};
 ghost use Rattle.eg_model.specs.History.{drives};
 ghost use Rattle.eg_model.specs.Moments.{effective_drive};
-ghost use Rattle.eg_model.specs.Rows.{signal_list};
-ghost use Rattle.eg_agree.specs.Standing.{signals_of};
+ghost use Rattle.eg_turns.specs.Midway.{signals_in};
 ghost use Rattle.eg_tick.specs.Stands.{kind_of};
 
-use crate::board::load;
 use crate::monitoring::Judgement;
 use crate::paths::Paths;
-use crate::plant::Outputs;
 use crate::span::SpanTick;
 use eg_answer::Rules;
 use eg_guard::Guarded;
-use eg_level2::{Lookup, word_address};
+use eg_level2::Lookup;
 use eg_num::{Drive, Watches};
 use eg_plant::Engine;
 use eg_record::Row;
+use eg_turns::{Outputs, signals};
 
 /// What a tick begins with: its number, what the drive trace gives to it, the permitted torque in tenths of
 /// Nm, its place in its span, and the paths.
@@ -107,28 +104,6 @@ pub(crate) fn demand(lookup: &Lookup, drive: &Drive) -> u16
     lookup.torque.max(drive.raise())
 }
 
-/// A word of level 2, as it stands in the memory, by its number (docs/FORMATS.md, "Words of level 2").
-#[tactic(auto, using(crate::proofs::BoardLemmas::board), unfolding(eg_level2::specs::Words::word_at))]
-pub fn word<M: Guarded>(memory: &M, number: u8) -> u16
-    requires { number < STORED_WORDS }
-    ensures { result ≡ word_at (M.shows memory.now).words number }
-{
-    load(memory, word_address(u16::from(number)))
-}
-
-/// The five signals of level 2, which are its first five words (docs/CONCEPT.md, "Level 2").
-pub fn signals<M: Guarded>(memory: &M) -> [u16; 5]
-    ensures { result ≡ signal_list (signals_of (words_of (M.shows memory.now).words)) }
-{
-    [
-        word(memory, 0),
-        word(memory, 1),
-        word(memory, 2),
-        word(memory, 3),
-        word(memory, 4),
-    ]
-}
-
 /// The row of a tick (docs/CONCEPT.md, "The record of a run"): what it began with, what the engine shows,
 /// what stands in the memory now, and what level 2 and the monitoring module found.
 pub(crate) fn row<E: Engine, M: Guarded>(
@@ -148,7 +123,7 @@ pub(crate) fn row<E: Engine, M: Guarded>(
       path1 = begins.paths.path1;
       path2 = begins.paths.path2;
       on = begins.paths.on;
-      signals = signal_list (signals_of (words_of (M.shows memory.now).words));
+      signals = signals_in (words_of (M.shows memory.now).words);
       throttle = slice_index (M.shows memory.now).words THROTTLE;
       ignition = slice_index (M.shows memory.now).words IGNITION;
       found = record found {

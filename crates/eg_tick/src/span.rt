@@ -7,20 +7,18 @@ ghost use Rattle.eg_fault.specs.Faults.{effects};
 ghost use Rattle.eg_model.specs.History.{Setting, Tick, SpanKind};
 ghost use Rattle.eg_model.specs.Paths.{is_testing, is_told_to_open, reads_back};
 ghost use Rattle.eg_agree.specs.Doings.{phase_at};
-ghost use Rattle.eg_tick.specs.Midway.{IsReady};
+ghost use Rattle.eg_turns.specs.Midway.{IsReady};
 ghost use Rattle.eg_tick.specs.Stands.{kind_of, HoldsSpan};
 ghost use Rattle.eg_tick.specs.Entering.{kind_from, ticks_from, begun, span_from};
 
-use crate::board::clear;
 use crate::monitoring::Judgement;
-use crate::working::Level1;
 use eg_answer::Times;
 use eg_base::NoMemory;
 use eg_fault::{Fault, sends};
 use eg_guard::Guarded;
-use eg_host::Host;
 use eg_level2::{Level2, Phase};
 use eg_module::Monitor;
+use eg_turns::{Level1, restart};
 
 /// What a controller keeps of the span of ticks that it is in, besides level 1 and the memory
 /// (docs/CONCEPT.md, "The controller").
@@ -242,9 +240,7 @@ fn begin<M: Guarded>(
     ensures ready { OnOk result (IsReady level2.now.rules level1.new.program (M.shows memory.new).words) }
     ensures keeps { KeepsMemory (M.shows memory.old) (M.shows memory.new) result }
 {
-    clear(memory)?;
-    level2.reset(memory)?;
-    level1.host = Host::new();
+    restart(level2, level1, memory)?;
     span.start(tests);
     span.monitor.restart();
     Ok(())

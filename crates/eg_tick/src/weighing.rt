@@ -10,11 +10,11 @@ ghost use Rattle.eg_tick.specs.Run.{IsAt};
 ghost use Rattle.eg_tick.specs.Stands.{Stands};
 ghost use Rattle.eg_tick.specs.Margins.{counters_in_run, counters_kept, weighed_to};
 
-use crate::row::word;
 use crate::{BenchedEngine, Controller};
 use eg_guard::Guarded;
 use eg_module::Monitor;
 use eg_record::{Counters, MarginTally, Row};
+use eg_turns::word;
 
 /// Feeds the row of the tick that a controller has just made to a tally, with what the debouncers weigh after
 /// it, where the run is `WEIGHED` (docs/CONCEPT.md, "`margins`"). It takes no memory and refuses nothing.

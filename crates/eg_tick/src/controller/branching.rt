@@ -7,12 +7,12 @@ ghost use Rattle.eg_tick.specs.Stands.{Stands};
 
 use super::Controller;
 use crate::span::Span;
-use crate::working::Level1;
 use eg_base::NoMemory;
 use eg_fault::Fault;
 use eg_guard::{CopyMemory, Guarded};
 use eg_level2::Level2;
 use eg_plant::{CopyEngine, Engine};
+use eg_turns::Level1;
 use std::alloc::Global;
 
 impl<E: Engine + Drop, M: Guarded + Drop> Controller<E, M> {

@@ -9,11 +9,11 @@ ghost use Rattle.eg_tick.specs.Commanding.{commanded_at};
 use super::Controller;
 use crate::Commands;
 use crate::paths::Paths;
-use crate::plant::Outputs;
 use eg_fault::{PATH_1, PATH_2, conducts, held};
 use eg_guard::Guarded;
 use eg_num::Drive;
 use eg_plant::{Engine, ForeignEngine, PartnerStep};
+use eg_turns::Outputs;
 
 impl<E: Engine + Drop, M: Guarded + Drop> Controller<E, M> {
     /// What the next tick commands to the engine, with this drive row (docs/CONCEPT.md, "`couple`"). Of the

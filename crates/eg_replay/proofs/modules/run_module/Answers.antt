@@ -1,5 +1,5 @@
 use Rattle.eg_level2.specs.Words.{is_level2_own}
-use Rattle.eg_tick.proofs.FrameLemmas.{level2_leaves, asked-stays, prepared-asked}
+use Rattle.eg_turns.proofs.FrameLemmas.{level2_leaves, asked-stays, prepared-asked}
 use Rattle.eg_replay.proofs.RunLemmas.{module-runs, module-finds}
 use Rattle.eg_replay.proofs.modules.run_module.Goals as goal
 

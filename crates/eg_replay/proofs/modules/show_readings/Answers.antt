@@ -1,4 +1,4 @@
-use Rattle.eg_tick.proofs.FrameLemmas.{shown-words, shown-mirrors}
+use Rattle.eg_turns.proofs.FrameLemmas.{shown-words, shown-mirrors}
 use Rattle.eg_replay.proofs.modules.show_readings.Goals as goal
 
 pub returns-clause-words : goal.returns-clause-words

@@ -1,4 +1,4 @@
-use Rattle.std.proofs.Common.{◌≡◌, ◌∙◌, ◌++◌, [], ap, ap₂, sym, refl, List, ℕ, drop, replicate, append_assoc, arith}
+use Rattle.std.proofs.Common.{◌≡◌, ◌∙◌, ◌++◌, ap, ap₂, sym, List, ℕ, append_assoc, arith}
 use Rattle.std.specs.Prelude.{codes}
 use Rattle.eg_record.specs.Texts.{numbers_text, found_text}
 use Rattle.eg_record.proofs.ColumnsLemmas.{rest-whole}

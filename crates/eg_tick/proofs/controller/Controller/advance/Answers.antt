@@ -1,4 +1,4 @@
-use Rattle.std.proofs.Common.{◌≡◌, ◌∙◌, refl, sym, ap, ap₂, subst, ◌+◌, ◌<◌, Some, None, List, ◌∷◌, length, slice_index, true, false, arith, rules}
+use Rattle.std.proofs.Common.{◌≡◌, ◌∙◌, refl, sym, ap, ap₂, subst, inl, inr, ◌+◌, ◌<◌, Some, None, List, ◌∷◌, length, slice_index, true, false, arith}
 use Rattle.std.specs.Option.{option_copied}
 use Rattle.eg_answer.specs.declared.rules.Rules.{Rules}
 use Rattle.eg_torque.specs.Permit.{drive_permits}
@@ -6,8 +6,9 @@ use Rattle.eg_torque.specs.Ramp.{ramped}
 use Rattle.eg_fault.specs.Effects.{asked_at}
 use Rattle.eg_record.specs.declared.row.Row.{Row}
 use Rattle.eg_agree.specs.Doings.{phase_at}
-use Rattle.eg_fault.specs.Faults.{effects}
+use Rattle.eg_fault.specs.Faults.{effects, IsNoneOrValid}
 use Rattle.eg_guard.specs.Memory.{AreWords}
+use Rattle.eg_guard.proofs.KeepsLemmas.{clash, keeps_then}
 use Rattle.eg_level2.specs.Words.{words_of, AreWithin}
 use Rattle.eg_level2.specs.Inputs.{Level2Parts, IsLookup}
 use Rattle.eg_model.specs.History.{Setting, Entry}
@@ -17,10 +18,12 @@ use Rattle.eg_model.specs.Rows.{row_of}
 use Rattle.eg_tick.specs.Kept.{Kept}
 use Rattle.eg_tick.specs.Stands.{kind_of, HoldsMonitor, Stands, IsController}
 use Rattle.eg_tick.specs.declared.span.Span.{Span}
+use Rattle.eg_tick.specs.Entering.{span_from}
 use Rattle.eg_tick.specs.Advancing.{effects_after, entry_of, world_before}
-use Rattle.eg_tick.specs.declared.working.Task.{Task}
+use Rattle.eg_turns.specs.declared.working.Task.{Task}
 use Rattle.eg_tick.proofs.StandsLemmas.{Enters, entered, enters, row_by, next_stands}
-use Rattle.eg_tick.proofs.AdvanceLemmas.{of_setting, held-within, within, few-in, period-in, later-in, stepped, unmade, Advance, makes, row-told, step-told}
+use Rattle.eg_tick.proofs.WorkLemmas.{works-served, works-step}
+use Rattle.eg_tick.proofs.AdvanceLemmas.{of_setting, held-within, within, few-in, period-in, later-in, stepped, ran_out, Advance, settled, makes, row-told, step-told}
 use Rattle.eg_tick.proofs.controller.Controller.advance.Given.{Over}
 use Rattle.eg_tick.proofs.controller.Controller.advance.Goals as goal
 
@@ -132,14 +135,15 @@ permitted : (g : Over) (c : goal.After-row g) →
 permitted g c = c.ramped.ensures ∙ ap₂ (λ (rules : Rules) demanded. ramped rules.fall (old g c).span.limit demanded)
     c.rules-rules.ensures.rules (demands g c)
 
+valid : (g : Over) (c : goal.After-row g) → IsNoneOrValid (option_copied c.as_ref-fault.result)
+valid g c = subst IsNoneOrValid (sym c.as_ref-fault.ensures.value) c.self.invariant.keeps.fault
+
 advance : (g : Over) (c : goal.After-row g) → Advance (old g c) (new g c) c.args.drive.now c.args.slices.now c.self.inside.fault c.self.inside.level2
     c.at.result c.next_tick.result (task g c) c.in_ok-step.step c.judge-judged.result
 advance g c =
     let noted = c.note.ensures in
     let test_ticks = c.self.invariant.test_ticks_are in
-    subst (λ under. Advance (old g c) (new g c) c.args.drive.now c.args.slices.now under c.self.inside.level2 c.at.result c.next_tick.result
-    (task g c) c.in_ok-step.step c.judge-judged.result)
-    c.as_ref-fault.ensures.value
+    settled c.as_ref-fault.ensures.value
     (record {
       accepted = c.self.invariant.keeps.accepted;
       parts = c.self.invariant.parts;
@@ -162,8 +166,8 @@ advance g c =
           (length questions) c.enter.new.span.local) c.questions-questions.ensures.questions;
       readings = λ e. c.readings.ensures c.self.inside.calibration e (sym c.brake-brake.ensures.brake);
       slices = refl;
-      served = c.in_ok-step.ensures.served;
-      step = c.in_ok-step.ensures.step;
+      served = works-served (valid g c) c.in_ok-step.ensures;
+      step = works-step (valid g c) c.in_ok-step.ensures;
       holds = λ kind s x h comes. subst (λ (span : Span). HoldsMonitor kind s span.monitor (x ∷ h)) (sym noted) (c.judge-judged.ensures.holds kind s x h comes);
       tells = c.judge-judged.ensures.tells;
       cal = refl;
@@ -258,31 +262,31 @@ returns g c = record {
       (λ throttle ignition on held. g.E.Engine.steps c.args.self.now.engine throttle ignition on held c.step_engine.new.engine)
       (steps g c))
       s (was g c s h stands);
-  shown = search rules;
-  ticks = search rules;
-  fault = search rules;
-  cal = search rules;
+  shown = refl;
+  ticks = ap (λ v. v.kept.ticks + 1) c.self.view_is;
+  fault = ap (λ v. v.kept.fault) c.self.view_is;
+  cal = ap (λ v. v.kept.cal) c.self.view_is;
   keeps = still g c;
-  lost = search rules;
+  lost = λ lost. sym c.if-self.false ∙ ap (λ v. v.kept.lost) c.self.view_is ∙ lost;
   loses = tt;
-  rests = search rules;
+  rests = λ lost. absurd (clash (sym c.if-self.false ∙ ap (λ v. v.kept.lost) c.self.view_is ∙ lost));
   same_ticks = tt;
   same_trap = tt;
-  sure = search rules;
-  stays_sure = search rules;
+  sure = λ sure. refl;
+  stays_sure = c.work.ensures.keeps.stays_sure ∙ c.enter.ensures.keeps.stays_sure ∙ ap (λ v. v.kept.memory.sure) c.self.view_is;
   same_or_stepped = λ s h stands. tt;
   same_or_begun = tt;
 }
 
 pub returns-in_err-enter : goal.returns-in_err-enter
-returns-in_err-enter g c = unmade c.from_residual.result c.from_residual.ensures.0 (search rules) (search rules) (search rules) (search rules) (search rules)
-    (search rules) (search rules) (search rules) (search rules) (search rules) (search rules) (search rules)
+returns-in_err-enter g c = ran_out c.from_residual.result c.from_residual.ensures.0 c.self.view_is c.if-self.false c.self.invariant.keeps refl
+    c.in_err-enter.ensures.keeps (λ s h stands. inl (ap (λ v. v.engine) c.self.view_is)) (inl (c.in_err-enter.ensures.stopped ∙ ap (λ v. v.kept.span) c.self.view_is))
 
 pub returns-in_err-step : goal.returns-in_err-step
-returns-in_err-step g c = unmade c.from_residual-in_err-step.result c.from_residual-in_err-step.ensures.0 (search rules) (search rules) (search rules) (search rules)
-    (search rules) (search rules) (search rules) (search rules) (search rules) (search rules)
+returns-in_err-step g c = ran_out c.from_residual-in_err-step.result c.from_residual-in_err-step.ensures.0 c.self.view_is c.if-self.false c.self.invariant.keeps refl
+    (keeps_then _ _ _ _ _ c.in_ok-enter.ensures.keeps c.in_err-step.ensures.keeps)
     (λ s h stands. stepped g.E.Engine.steps s c.args.drive.now c.args.slices.now _ h c.args.self.now.kept _ c.enter.new.span c.enter.new.level1.host.registers
     (g.M.Guarded.shows c.enter.new.memory) _ c.at.result _ c.held-held_plate.result _ _ c.step_engine.new.engine (ap (λ v. v.kept) c.self.view_is)
     c.as_ref-fault.ensures.value (ap (λ v. v.engine) c.self.view_is) stands c.reset.ensures.reset c.in_ok-enter.ensures.holds c.at.ensures.path1 c.at.ensures.path2
     c.at.ensures.on c.held-held_plate.ensures c.step_engine.ensures.steps)
-    (search rules)
+    (inr (c.in_ok-enter.ensures.begun ∙ ap₂ span_from c.reset.ensures.reset (ap (λ v. v.kept.span) c.self.view_is)))

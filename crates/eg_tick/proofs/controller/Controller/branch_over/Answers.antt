@@ -6,7 +6,7 @@ use Rattle.eg_level2.specs.Inputs.{IsLookup}
 use Rattle.eg_model.specs.Branching.{BeginsFrom, under}
 use Rattle.eg_tick.specs.Kept.{Kept}
 use Rattle.eg_tick.specs.Stands.{Stands, IsController}
-use Rattle.eg_tick.specs.declared.working.Level1.{Level1}
+use Rattle.eg_turns.specs.declared.working.Level1.{Level1}
 use Rattle.eg_tick.proofs.BranchLemmas.{branch_of, branch_stands, branch_is}
 use Rattle.eg_tick.proofs.controller.Controller.branch_over.Given.{Over}
 use Rattle.eg_tick.proofs.controller.Controller.branch_over.Goals as goal

@@ -1,8 +1,6 @@
-use Rattle.std.proofs.Common.{◌≡◌, ◌∙◌, refl, sym, ap, ap₂, subst, length, replicate, [], true, false, None}
+use Rattle.std.proofs.Common.{◌≡◌, ◌∙◌, refl, sym, ap, ap₂, subst, [], true, false, None}
 use Rattle.eg_guard.specs.Memory.{AreWords}
 use Rattle.eg_guard.proofs.WordsLemmas.{zeros_are_words}
-use Rattle.eg_word.specs.World.{world_of}
-use Rattle.eg_word.proofs.ProgramLemmas.{program-stays}
 use Rattle.eg_answer.specs.declared.rules.Rules.{Rules}
 use Rattle.eg_answer.specs.Times.{test_ticks_of}
 use Rattle.eg_answer.specs.Periods.{period_of}
@@ -11,53 +9,35 @@ use Rattle.eg_module.specs.Monitoring.{MonitorParts, HasGiven}
 use Rattle.eg_tick.specs.declared.span.Span.{Span}
 use Rattle.eg_tick.specs.Kept.{Kept}
 use Rattle.eg_tick.specs.Stands.{Stands}
-use Rattle.eg_tick.specs.Board.{IsWritten}
-use Rattle.eg_tick.proofs.StartLemmas.{new_stands, made_code, made_world}
+use Rattle.eg_tick.proofs.StartLemmas.{new_stands}
 use Rattle.eg_tick.proofs.controller.Controller.new.Given.{Over}
 use Rattle.eg_tick.proofs.controller.Controller.new.Goals as goal
 
-pub load_image-requires-clause-are_words : goal.load_image-requires-clause-are_words
-load_image-requires-clause-are_words g c = subst AreWords (sym c.requires.zeros) zeros_are_words
+made_words : (g : Over) (c : goal.After-new-span g) → AreWords (g.M.Guarded.shows c.set_up.new.memory).words
+made_words g c = c.set_up.ensures.keeps.are_words (subst AreWords (sym c.requires.zeros) zeros_are_words)
 
-loaded_words : (g : Over) (c : goal.After-new g) → AreWords (g.M.Guarded.shows c.load_image.new.memory).words
-loaded_words g c = c.load_image.ensures.keeps.are_words (subst AreWords (sym c.requires.zeros) zeros_are_words)
-
-made_words : (g : Over) (c : goal.After-new g) → AreWords (g.M.Guarded.shows c.reset.new.memory).words
-made_words g c = c.reset.ensures.are_words (loaded_words g c)
-
-abbrev kept : (g : Over) → goal.After-new g → Kept
+abbrev kept : (g : Over) → goal.After-new-span g → Kept
 kept g c = record {
   cal = c.args.calibration;
   fault = c.args.fault;
   ticks = 0;
   span = c.new-span.result;
-  memory = g.M.Guarded.shows c.reset.new.memory;
-  registers = c.new.result.registers;
+  memory = g.M.Guarded.shows c.set_up.new.memory;
+  registers = c.in_ok-level1.level1.host.registers;
   trap = None;
   kt = g.E.Engine.kt c.args.engine;
   shown = g.E.Engine.shows c.args.engine;
   lost = false;
 }
 
-made : (g : Over) (c : goal.After-new g) → Stands (record { cal = c.args.calibration; image = c.args.image.now; fault = c.args.fault }) (kept g c) []
+made : (g : Over) (c : goal.After-new-span g) → Stands (record { cal = c.args.calibration; image = c.args.image.now; fault = c.args.fault }) (kept g c) []
 made g c =
-    let image = c.args.image.now in
-    let loaded = (g.M.Guarded.shows c.load_image.new.memory).words in
-    let made = (g.M.Guarded.shows c.reset.new.memory).words in
-    let written : IsWritten (replicate 4096 0) loaded 0 image (length image) =
-    subst (λ old. IsWritten old loaded 0 image (length image)) c.requires.zeros c.in_ok-load_image.ensures.written in
-    let are_words : AreWords made = made_words g c in
     let span = c.new-span.ensures in
     let monitor : c.new-span.result.monitor ≡ c.new-monitor.result = ap (λ (p : Span). p.monitor) span in
-    new_stands _ _ refl refl refl are_words (ap (λ (p : Span). p.tests) span) (ap (λ (p : Span). p.passed) span) (record {
+    new_stands _ _ refl refl refl (made_words g c) (ap (λ (p : Span). p.tests) span) (ap (λ (p : Span). p.passed) span) (record {
       local = ap (λ (p : Span). p.local) span;
       limit = ap (λ (p : Span). p.limit) span;
-      code = made_code image loaded made c.requires.image (loaded_words g c) written c.reset.ensures.outside;
-      world =
-          ap (λ m. world_of m made) c.new.ensures
-          ∙ made_world image loaded made c.requires.image (loaded_words g c) are_words written c.reset.ensures.outside;
-      mirrored = c.in_ok-reset.ensures.mirrored;
-      words = c.in_ok-reset.ensures.words;
+      held = c.in_ok-level1.ensures.holds;
       open1 = ap (λ (p : Span). p.open1) span;
       open2 = ap (λ (p : Span). p.open2) span;
       times = ap (λ (m : MonitorParts). m.times) (monitor ∙ c.new-monitor.ensures.begins) ∙ c.copy-3.ensures ∙ c.times-2.ensures.times;
@@ -71,7 +51,7 @@ pub invariant_of-result : goal.invariant_of-result
 invariant_of-result g c = record {
   parts = c.new-level2.ensures.parts ∙ ap₂ (λ a b. record { rules = a; questions = b }) (c.copy.ensures ∙ c.rules.ensures.rules) (c.copy-2.ensures ∙ c.questions.ensures.questions);
   test_ticks_are = c.test_ticks-test_ticks.ensures.number ∙ ap test_ticks_of c.times.ensures.times;
-  decoded = λ held. program-stays c.args.image.now _ _ (made g c).span.level1.code c.new-program.ensures;
+  decoded = λ held. c.in_ok-level1.ensures.program;
   looked_up = subst (λ (rules : Rules). IsLookup rules c.new-lookup.result) c.rules-2.ensures.rules c.new-lookup.ensures.lookup;
   keeps = record { accepted = c.rules.ensures.accepted; fault = c.requires.fault; stands = λ held. (c.args.image.now, [], made g c); unsure = λ gone. absurd (let clash : false ≡ true = gone in cc) };
 }

@@ -1,0 +1,11 @@
+pub mod FrameLemmas
+pub mod MidwayLemmas
+pub mod BoardLemmas
+pub mod MadeLemmas
+pub mod LevelLemmas
+pub mod FlipLemmas
+pub mod StepLemmas
+pub mod TurnLemmas
+pub mod StoppedLemmas
+pub mod BeginLemmas
+pub mod WorkLemmas

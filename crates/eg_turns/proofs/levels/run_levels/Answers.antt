@@ -1,0 +1,18 @@
+use Rattle.std.proofs.Common.{◌≡◌, ◌∙◌, refl, sym, ap, false}
+use Rattle.std.specs.Prelude.{Ok}
+use Rattle.std.specs.Option.{option_copied}
+use Rattle.eg_fault.specs.Effects.{no_effects}
+use Rattle.eg_fault.specs.Faults.{effects}
+use Rattle.eg_fault.proofs.RunningLemmas.{stops_both}
+use Rattle.eg_turns.proofs.StoppedLemmas.{stopped_tick}
+use Rattle.eg_turns.proofs.levels.run_levels.Goals as goal
+
+pub run_turns-requires-clause-level1 : goal.run_turns-requires-clause-level1
+unfolding effects no_effects
+run_turns-requires-clause-level1 g c = refl
+
+pub returns-then-not-level1_runs : goal.returns-then-not-level1_runs
+returns-then-not-level1_runs g c =
+    let still : (effects (option_copied c.args.fault) c.args.task.now.tick).level1 ≡ false =
+    sym c.fault_of_levels-fault.ensures.same.level1 ∙ sym c.level1_runs.ensures ∙ c.if-not-level1_runs.true in
+    stopped_tick _ _ c.args.task.now c.args.level1.now _ still (stops_both _ _ still) c.requires.ready c.requires.prepared (ap Ok c.stopped.ensures.quiet) c.stopped.ensures.nine
