@@ -1,5 +1,5 @@
 -- A tick, from what each of its parts says of itself.
-use Rattle.std.proofs.Common.{◌≡◌, ◌∙◌, refl, sym, ap, ap₂, subst, inr, ℕ, ◌+◌, ◌≤◌, ◌<◌, not, ◌||◌, ◌&&◌, All, Bool, true, false, IsTrue, None, Option, Some, List, [], ◌∷◌, length, slice_index, arith}
+use Rattle.std.proofs.Common.{◌≡◌, ◌∙◌, refl, sym, ap, ap₂, subst, inl, inr, ℕ, ◌+◌, ◌≤◌, ◌<◌, not, ◌||◌, ◌&&◌, All, Bool, true, false, IsTrue, None, Option, Some, List, [], ◌∷◌, length, slice_index, arith}
 use Rattle.std.specs.Prelude.{◌==◌, Result, Err, IsOk, IsErr}
 use Rattle.std.proofs.lemmas.Result.{IfOk-from_err}
 use Rattle.std.specs.Option.{option_or}
@@ -13,14 +13,16 @@ use Rattle.eg_fault.specs.Effects.{asked_at}
 use Rattle.eg_fault.specs.Faults.{effects, IsNoneOrValid}
 use Rattle.eg_fault.specs.Classes.{IsHeldWithin}
 use Rattle.eg_fault.proofs.ClassLemmas.{plates_are_held_within}
-use Rattle.eg_values.specs.Calibration.{IsAccepted}
+use Rattle.eg_values.specs.Calibration.{CalibrationParts, IsAccepted}
 use Rattle.eg_guard.specs.Memory.{ShownMemory, AreWords, KeepsMemory}
 use Rattle.eg_guard.proofs.KeepsLemmas.{clash}
 use Rattle.eg_word.specs.declared.registers.Registers.{Registers}
+use Rattle.eg_word.specs.declared.instruction.Instruction.{Instruction}
 use Rattle.eg_word.specs.World.{World, world_of}
 use Rattle.eg_record.specs.declared.row.Row.{Row}
 use Rattle.eg_level2.specs.Words.{AreWithin, words_of}
 use Rattle.eg_level2.specs.Inputs.{Level2Parts}
+use Rattle.eg_level2.specs.declared.lookup.Lookup.{Lookup}
 use Rattle.eg_level2.specs.declared.step.Step.{Step}
 use Rattle.eg_model.specs.History.{Setting, Entry, Tick, SpanKind, drives}
 use Rattle.eg_model.specs.Paths.{is_testing, reads_back}
@@ -39,6 +41,7 @@ use Rattle.eg_tick.specs.Stands.{kind_of, Stands, HoldsMonitor, IsController}
 use Rattle.eg_tick.specs.Entering.{StaysOrBegins}
 use Rattle.eg_tick.specs.Working.{Serves, Served, IsStep}
 use Rattle.eg_tick.specs.Judging.{ComesNext, Tells}
+use Rattle.eg_tick.specs.Inside.{IsWhole}
 use Rattle.eg_tick.specs.Advancing.{effects_after, entry_of, world_before, StaysOrSteps, IsTick}
 use Rattle.eg_tick.specs.declared.monitoring.Judgement.{Judgement}
 use Rattle.eg_tick.specs.declared.paths.Paths.{Paths}
@@ -223,6 +226,37 @@ unmade result is shown fault cal keeps lost rests ticks trap sure stays_sure ste
   same_or_begun = at_err result begun;
 }
 
+-- what is left of a controller once memory has run out,
+abbrev left : Kept → Span → Registers → ShownMemory → ℕ → Shown → Kept
+left before span m memory kt shown = record before { span = span; memory = memory; registers = m; kt = kt; shown = shown; lost = true }
+
+left_unsure : {T F : Type 0} {a b : ShownMemory} {e : F} (sure : Bool) → b.sure ≡ sure → (let refused : Result T F = Err e in KeepsMemory a b refused) → b.sure ≡ false
+left_unsure false is keeps = is
+left_unsure true is keeps = absurd (clash (keeps.sure (sym keeps.stays_sure ∙ is)))
+
+-- is one still,
+pub left_controller : {T F : Type 0} {before : Kept} {span : Span} {m : Registers} {memory : ShownMemory} {kt : ℕ} {shown : Shown} {e : F}
+    → (let refused : Result T F = Err e in KeepsMemory before.memory memory refused) → IsController before → IsController (left before span m memory kt shown)
+left_controller {memory = memory} memory_keeps keeps = record {
+  accepted = keeps.accepted;
+  fault = keeps.fault;
+  stands = λ held. absurd (clash (sym held));
+  unsure = λ lost. left_unsure memory.sure refl memory_keeps;
+}
+
+-- and whole
+pub left_whole : {T F : Type 0} {before : Kept} {span : Span} {m : Registers} {memory : ShownMemory} {kt : ℕ} {shown : Shown} {e : F} {cal : CalibrationParts}
+    {level2 : Level2Parts} {test_ticks : ℕ} {program again : List Instruction} {lookup : Lookup}
+    → (let refused : Result T F = Err e in KeepsMemory before.memory memory refused) → IsWhole cal level2 test_ticks program lookup before
+    → IsWhole cal level2 test_ticks again lookup (left before span m memory kt shown)
+left_whole memory_keeps whole = record {
+  parts = whole.parts;
+  test_ticks_are = whole.test_ticks_are;
+  decoded = λ held. absurd (clash (sym held));
+  looked_up = whole.looked_up;
+  keeps = left_controller memory_keeps whole.keeps;
+}
+
 -- The same from what memory ran out in: `before` is the controller as it was, and its span, level 1's machine, memory and engine are these then.
 pub ran_out : {E X T F : Type 0} {shows : E → Shown} {steps : E → ℕ → ℕ → Bool → Option ℕ → E → Type 0} {drive : DriveRow} {slices : List ℕ}
     {before old : ControllerParts E} {engine : E} {span : Span} {m : Registers} {memory : ShownMemory} {kt : ℕ} {shown : Shown} {e : F} (result : Result Row X)
@@ -230,19 +264,22 @@ pub ran_out : {E X T F : Type 0} {shows : E → Shown} {steps : E → ℕ → �
     → (let refused : Result T F = Err e in KeepsMemory before.kept.memory memory refused)
     → ((s : Setting) (h : List Entry) → Stands s old.kept h → StaysOrSteps steps s drive slices shown h old.engine engine)
     → StaysOrBegins drive.reset old.kept.span span
-    → IsTick shows steps drive slices old
-        (record { engine = engine; kept = record before.kept { span = span; memory = memory; registers = m; kt = kt; shown = shown; lost = true } }) result
-ran_out {memory = memory} result is same held keeps shown memory_keeps stepped begun =
-    unmade result is shown (ap (λ c. c.kept.fault) same) (ap (λ c. c.kept.cal) same)
-    (record { accepted = keeps.accepted; fault = keeps.fault; stands = λ not_lost. absurd (clash (sym not_lost)); unsure = λ lost. unsure memory.sure refl })
+    → IsTick shows steps drive slices old (record { engine = engine; kept = left before.kept span m memory kt shown }) result
+ran_out result is same held keeps shown memory_keeps steps begun =
+    unmade result is shown (ap (λ c. c.kept.fault) same) (ap (λ c. c.kept.cal) same) (left_controller memory_keeps keeps)
     refl (λ lost. absurd (clash (sym held ∙ ap (λ c. c.kept.lost) same ∙ lost)))
     (ap (λ c. c.kept.ticks) same) (ap (λ c. c.kept.trap) same)
     (λ sure. absurd (clash (memory_keeps.sure (ap (λ c. c.kept.memory.sure) same ∙ sure))))
-    (memory_keeps.stays_sure ∙ ap (λ c. c.kept.memory.sure) same) stepped begun
-  where
-    unsure : (sure : Bool) → memory.sure ≡ sure → memory.sure ≡ false
-    unsure false is = is
-    unsure true is = absurd (clash (memory_keeps.sure (sym memory_keeps.stays_sure ∙ is)))
+    (memory_keeps.stays_sure ∙ ap (λ c. c.kept.memory.sure) same) steps begun
+
+-- a tick after memory has run out changes nothing
+pub rests : {E X : Type 0} {shows : E → Shown} {steps : E → ℕ → ℕ → Bool → Option ℕ → E → Type 0} {drive : DriveRow} {slices : List ℕ}
+    {before old : ControllerParts E} {x : X} → before ≡ old → before.kept.lost ≡ true → before.kept.shown ≡ shows before.engine → IsController before.kept
+    → (let refused : Result Row X = Err x in IsTick shows steps drive slices old old refused)
+rests {X = X} {shows = shows} {steps = steps} {drive = drive} {slices = slices} {x = x} same lost shown keeps =
+    subst (λ c. (let refused : Result Row X = Err x in IsTick shows steps drive slices c c refused)) same
+    (unmade (Err x) refl shown refl refl keeps lost (λ gone. refl) refl refl (λ sure. absurd (clash (sym (keeps.unsure lost) ∙ sure))) refl
+    (λ s h stands. inl refl) (inl refl))
 
 pub refused : {E X : Type 0} {shows : E → Shown} {steps : E → ℕ → ℕ → Bool → Option ℕ → E → Type 0} {drive : DriveRow} {slices : List ℕ} {old new : ControllerParts E} {x : X}
     (result : Result Row X) → IsErr result → (let refused : Result Row X = Err x in IsTick shows steps drive slices old new refused)

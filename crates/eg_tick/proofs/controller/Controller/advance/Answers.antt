@@ -23,7 +23,7 @@ use Rattle.eg_tick.specs.Advancing.{effects_after, entry_of, world_before}
 use Rattle.eg_turns.specs.declared.working.Task.{Task}
 use Rattle.eg_tick.proofs.StandsLemmas.{Enters, entered, enters, row_by, next_stands}
 use Rattle.eg_tick.proofs.WorkLemmas.{works-served, works-step}
-use Rattle.eg_tick.proofs.AdvanceLemmas.{of_setting, held-within, within, few-in, period-in, later-in, stepped, ran_out, Advance, settled, makes, row-told, step-told}
+use Rattle.eg_tick.proofs.AdvanceLemmas.{of_setting, held-within, within, few-in, period-in, later-in, stepped, left_whole, ran_out, rests, Advance, settled, makes, row-told, step-told}
 use Rattle.eg_tick.proofs.controller.Controller.advance.Given.{Over}
 use Rattle.eg_tick.proofs.controller.Controller.advance.Goals as goal
 
@@ -290,3 +290,12 @@ returns-in_err-step g c = ran_out c.from_residual-in_err-step.result c.from_resi
     c.as_ref-fault.ensures.value (ap (λ v. v.engine) c.self.view_is) stands c.reset.ensures.reset c.in_ok-enter.ensures.holds c.at.ensures.path1 c.at.ensures.path2
     c.at.ensures.on c.held-held_plate.ensures c.step_engine.ensures.steps)
     (inr (c.in_ok-enter.ensures.begun ∙ ap₂ span_from c.reset.ensures.reset (ap (λ v. v.kept.span) c.self.view_is)))
+
+pub returns-then-self : goal.returns-then-self
+returns-then-self g c = rests c.self.view_is c.if-self.true refl c.self.invariant.keeps
+
+pub invariant_of-self : goal.invariant_of-self
+invariant_of-self g c = left_whole c.in_err-enter.ensures.keeps c.self.invariant
+
+pub invariant_of-self-in_err-step : goal.invariant_of-self-in_err-step
+invariant_of-self-in_err-step g c = left_whole (keeps_then _ _ _ _ _ c.in_ok-enter.ensures.keeps c.in_err-step.ensures.keeps) c.self.invariant
