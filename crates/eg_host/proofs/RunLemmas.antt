@@ -14,19 +14,19 @@ use Rattle.eg_host.specs.Slices.{wake, slice_start, steps, world_slice, IsSlice}
 -- ---- steps ----
 
 -- one step more is done last
-steps-suc : (count : ℕ) (view : View) (world : World) → steps (suc count) view world ≡ world_step view (steps count view world)
+pub steps-suc : (count : ℕ) (view : View) (world : World) → steps (suc count) view world ≡ world_step view (steps count view world)
 unfolding steps
 steps-suc zero view world = refl
 steps-suc (suc count) view world = steps-suc count view (world_step view world)
 
 -- steps of a world whose machine doesn't run leave it
-steps-idle : (count : ℕ) (view : View) (world : World) → (world.registers.state ≡ Running → ⊥) → steps count view world ≡ world
+pub steps-idle : (count : ℕ) (view : View) (world : World) → (world.registers.state ≡ Running → ⊥) → steps count view world ≡ world
 unfolding steps
 steps-idle zero view world idle = refl
 steps-idle (suc count) view world idle = ap (steps count view) (world_step-idle view world idle) ∙ steps-idle count view world idle
 
 -- steps go on where the first ones ended
-steps-add : (first rest : ℕ) (view : View) (world : World) → steps (first + rest) view world ≡ steps rest view (steps first view world)
+pub steps-add : (first rest : ℕ) (view : View) (world : World) → steps (first + rest) view world ≡ steps rest view (steps first view world)
 unfolding steps
 steps-add zero rest view world = let sum : zero + rest ≡ rest = omega arith in ap (λ n. steps n view world) sum
 steps-add (suc first) rest view world =

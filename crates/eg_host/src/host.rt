@@ -37,25 +37,9 @@ impl Host {
         self.run(memory, None, budget)
     }
 
-    /// A slice, as `slice` does it, for a caller that has the program of the memory's code: no word is
-    /// decoded.
-    #[inline]
-    pub fn slice_of<M: Guarded>(
-        &mut self,
-        program: &Program,
-        memory: &mut M,
-        budget: u16,
-    ) -> Result<(), NoMemory>
-        requires { IsProgramOf (M.shows memory.old).words program.now }
-        ensures { IsSlice budget self.old.registers self.new.registers
-            (M.shows memory.old) (M.shows memory.new) result }
-    {
-        self.run(memory, Some(program), budget)
-    }
-
     /// A slice with or without a program. It is inlined, so that it is compiled once for each of these.
     #[inline(always)]
-    fn run<M: Guarded>(
+    pub(crate) fn run<M: Guarded>(
         &mut self,
         memory: &mut M,
         program: Option<&Program>,

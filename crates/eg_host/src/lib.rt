@@ -7,7 +7,9 @@
 #![tactic(auto)]
 
 mod host;
+mod level1;
 mod slices;
 
 pub use host::Host;
+pub use level1::Level1;
 pub use slices::{SlicePlan, Slices};

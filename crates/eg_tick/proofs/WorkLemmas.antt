@@ -21,7 +21,7 @@ use Rattle.eg_tick.specs.Working.{work_at, Serves, Served, IsStep}
 use Rattle.eg_turns.specs.Board.{by_tracks}
 use Rattle.eg_turns.specs.Midway.{Work, rest_of, Meets, IsDue, tick_step}
 use Rattle.eg_turns.specs.Working.{Holds, Works}
-use Rattle.eg_turns.specs.declared.working.Level1.{Level1}
+use Rattle.eg_host.specs.Level1.{Level1Parts}
 use Rattle.eg_turns.specs.declared.working.Task.{Task}
 use Rattle.eg_tick.proofs.TickLemmas.{tracks-are, level1-next, level2-next}
 
@@ -97,10 +97,10 @@ module _ (kind : SpanKind) (s : Setting) (x : Tick) (h : List Tick) (made : Leve
   }
 
 -- what a call for level 1 and level 2 says serves the tick
-module _ {E : Type 0} {made : Level2Parts} {under : Option Fault} {given : Task} {before after : Level1} {a b : ShownMemory} {done : Step} (valid : IsNoneOrValid under)
+module _ {E : Type 0} {made : Level2Parts} {under : Option Fault} {given : Task} {before after : Level1Parts} {a b : ShownMemory} {done : Step} (valid : IsNoneOrValid under)
     (works : (let result : Result Step E = Ok done in Works made (effects under given.tick) given before after a b result))
-    (kind : SpanKind) (s : Setting) (x : Tick) (h : List Tick) (serves : Serves kind s x h made under given before.host.registers a.words) where
-  pub works-served : Served kind s x h after.host.registers b.words
+    (kind : SpanKind) (s : Setting) (x : Tick) (h : List Tick) (serves : Serves kind s x h made under given before.registers a.words) where
+  pub works-served : Served kind s x h after.registers b.words
   works-served = served kind s x h made under given _ _ serves _ _ valid works.nine
       (works.holds (work_at kind s x h) (due kind s x h made under given _ _ serves) (held kind s x h made under given _ _ serves))
 

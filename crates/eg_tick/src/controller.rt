@@ -24,13 +24,14 @@ use crate::weighing::counters;
 use eg_base::NoMemory;
 use eg_fault::{Fault, held};
 use eg_guard::Guarded;
+use eg_host::Level1;
 use eg_level2::{Level2, Lookup};
 use eg_module::{Monitor, test_ticks};
 use eg_num::Drive;
 use eg_plant::Engine;
 use eg_record::{Counters, Row};
 use eg_torque::ramped;
-use eg_turns::{Level1, Task, set_up, work};
+use eg_turns::{Task, set_up, work};
 use eg_values::Calibration;
 use eg_word::{State, Trap};
 use std::marker::Model;
@@ -74,7 +75,7 @@ impl<E: Engine, M: Guarded> Model for Controller<E, M> {
         ticks = c.ticks;
         span = c.span;
         memory = M.shows c.memory;
-        registers = c.level1.host.registers;
+        registers = c.level1.registers;
         trap = c.trap;
         kt = E.kt c.engine;
         shown = E.shows c.engine;
@@ -88,7 +89,7 @@ impl<E: Engine, M: Guarded> Model for Controller<E, M> {
       ticks = c.ticks;
       span = c.span;
       memory = M.shows c.memory;
-      registers = c.level1.host.registers;
+      registers = c.level1.registers;
       trap = c.trap;
       kt = E.kt c.engine;
       shown = E.shows c.engine;
@@ -228,7 +229,7 @@ impl<E: Engine + Drop, M: Guarded + Drop> Controller<E, M> {
         let judged = judge(monitor, questions, fault, tick, local, asked, answer);
         self.span
             .note(begins.limit, step.open_path, judged, begins.passes());
-        note_trap(&mut self.trap, self.level1.host.registers.state, tick);
+        note_trap(&mut self.trap, &self.level1, tick);
         self.ticks += 1;
         (self.lost, self.lookup) = (false, lookup);
         Ok(row(begins, &self.engine, &self.memory, step.found, judged))
@@ -262,15 +263,15 @@ impl<E: Engine + Drop, M: Guarded + Drop> Controller<E, M> {
     }
 }
 
-/// Notes level 1's trap after a tick, by the state of its machine, where there was none before.
+/// Notes level 1's trap after a tick, where there was none before.
 #[tactic(auto, unfolding(eg_model::specs::Rows::trap_in))]
-fn note_trap(trap: &mut Option<(Trap, u32)>, state: State, tick: u32)
-    ensures { trap.new ≡ option_or trap.old (trap_in state tick) }
+fn note_trap(trap: &mut Option<(Trap, u32)>, level1: &Level1, tick: u32)
+    ensures { trap.new ≡ option_or trap.old (trap_in level1.now.registers.state tick) }
 {
     if trap.is_some() {
         return;
     }
-    if let State::Trapped(kind) = state {
+    if let State::Trapped(kind) = level1.registers().state {
         *trap = Some((kind, tick));
     }
 }

@@ -16,9 +16,10 @@ use eg_answer::Times;
 use eg_base::NoMemory;
 use eg_fault::{Fault, sends};
 use eg_guard::Guarded;
+use eg_host::Level1;
 use eg_level2::{Level2, Phase};
 use eg_module::Monitor;
-use eg_turns::{Level1, restart};
+use eg_turns::restart;
 
 /// What a controller keeps of the span of ticks that it is in, besides level 1 and the memory
 /// (docs/CONCEPT.md, "The controller").
@@ -205,9 +206,9 @@ pub(crate) fn enter<M: Guarded>(
 ) -> Result<(), NoMemory>
     requires { IsReady level2.now.rules level1.old.program (M.shows memory.old).words }
     ensures holds { (kind : SpanKind) (s : Setting) (h : List Tick)
-        → HoldsSpan kind s span.old level1.old.host.registers (M.shows memory.old).words h
+        → HoldsSpan kind s span.old level1.old.registers (M.shows memory.old).words h
         → OnOk result (HoldsSpan (kind_from reset span.old.passed kind) s span.new
-        level1.new.host.registers (M.shows memory.new).words (ticks_from reset span.old.passed h)) }
+        level1.new.registers (M.shows memory.new).words (ticks_from reset span.old.passed h)) }
     ensures begun { OnOk result (span.new ≡ span_from reset span.old) }
     ensures stopped { OnErr result (span.new ≡ span.old) }
     ensures ready { OnOk result (IsReady level2.now.rules level1.new.program (M.shows memory.new).words) }
@@ -231,8 +232,8 @@ fn begin<M: Guarded>(
 ) -> Result<(), NoMemory>
     requires { IsReady level2.now.rules level1.old.program (M.shows memory.old).words }
     ensures holds { (kind : SpanKind) (s : Setting) (h : List Tick)
-        → HoldsSpan kind s span.old level1.old.host.registers (M.shows memory.old).words h
-        → OnOk result (HoldsSpan (kind_of tests) s span.new level1.new.host.registers
+        → HoldsSpan kind s span.old level1.old.registers (M.shows memory.old).words h
+        → OnOk result (HoldsSpan (kind_of tests) s span.new level1.new.registers
         (M.shows memory.new).words []) }
     ensures begun { OnOk result (span.new ≡ begun tests span.old) }
     // Where memory runs out no latch has closed yet.

@@ -10,6 +10,7 @@ use Rattle.eg_answer.specs.declared.rules.Rules.{Rules}
 use Rattle.eg_word.specs.declared.instruction.Instruction.{Instruction}
 use Rattle.eg_word.specs.declared.registers.Registers.{Registers}
 use Rattle.eg_word.specs.Memory.{is_level1_own}
+use Rattle.eg_word.specs.Program.{IsProgramOf}
 use Rattle.eg_word.specs.World.{world_of, new_registers, new_world}
 use Rattle.eg_word.proofs.ProgramLemmas.{program-stays}
 use Rattle.eg_word.proofs.WorldLemmas.{world_of-elsewhere, world_of-new}
@@ -68,13 +69,13 @@ module _ (cleared memory : List ℕ) (m : Registers) (are_old : AreWords cleared
   held_again old image clears code world = held image (λ k within. code-stays is_level1_own level1_leaves old cleared clears k within ∙ code k within) world
 
   -- and it stays ready
-  pub ready_again : (rules : Rules) (program : List Instruction) (old : List ℕ) → SameOutside is_level1_own old cleared → AreWithin rules (words_of memory)
-      → IsReady rules program old → IsReady rules program memory
-  ready_again rules program old clears within ready = record {
+  pub ready_again : (rules : Rules) (program kept : List Instruction) (old : List ℕ) → kept ≡ program → SameOutside is_level1_own old cleared
+      → AreWithin rules (words_of memory) → IsReady rules program old → IsReady rules kept memory
+  ready_again rules program kept old same clears within ready = record {
     are_words = are;
     mirrored = mirrored;
     within = within;
-    decoded = program-stays old memory program
+    decoded = subst (IsProgramOf memory) (sym same) (program-stays old memory program
         (λ k below. code-stays is_level2_own level2_leaves cleared memory resets k below
-        ∙ code-stays is_level1_own level1_leaves old cleared clears k below) ready.decoded;
+        ∙ code-stays is_level1_own level1_leaves old cleared clears k below) ready.decoded);
   }

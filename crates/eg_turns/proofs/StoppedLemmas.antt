@@ -9,7 +9,7 @@ use Rattle.eg_level2.specs.Inputs.{Level2Parts, IsPrepared, asked_of}
 use Rattle.eg_level2.specs.Modules.{quiet_step}
 use Rattle.eg_level2.specs.declared.step.Step.{Step}
 use Rattle.eg_turns.specs.Midway.{Work, IsMidway, IsReady, IsDue, IsTurn, RunLevels}
-use Rattle.eg_turns.specs.declared.working.Level1.{Level1}
+use Rattle.eg_host.specs.Level1.{Level1Parts}
 use Rattle.eg_turns.specs.declared.working.Task.{Task}
 use Rattle.eg_turns.proofs.MidwayLemmas.{idle-midway}
 use Rattle.eg_turns.proofs.LevelLemmas.{idle_module, idle_step}
@@ -20,12 +20,12 @@ never : (b : Bool) → (b && false) ≡ false
 never true = refl
 never false = refl
 
-module _ (parts : Level2Parts) (x : Effects) (task : Task) (level1 : Level1) (a : ShownMemory) (still : x.level1 ≡ false) (stops : Stops x)
+module _ (parts : Level2Parts) (x : Effects) (task : Task) (level1 : Level1Parts) (a : ShownMemory) (still : x.level1 ≡ false) (stops : Stops x)
     (ready : IsReady parts.rules level1.program a.words) (prepared : IsPrepared parts (asked_of a.words) task.prepared) where
   plain : (w : Work) (j : ℕ) → IsDue parts x task w → (j == 0 && w.doing.differs) ≡ false
   plain w j due = ap (λ differs. j == 0 && differs) (due.meets.differs ∙ ap is_some stops.flip) ∙ never (j == 0)
 
-  slice : (w : Work) (j : ℕ) → IsDue parts x task w → IsMidway w j j level1.host.registers a.words → IsMidway w (j + 1) j level1.host.registers a.words
+  slice : (w : Work) (j : ℕ) → IsDue parts x task w → IsMidway w j j level1.registers a.words → IsMidway w (j + 1) j level1.registers a.words
   slice w j due midway = idle-midway w j _ _ (due.level1 ∙ still) midway
 
   turn : (j : ℕ) → (let done : Result Step NoMemory = Ok quiet_step in IsTurn parts x task j level1 level1 a a done)

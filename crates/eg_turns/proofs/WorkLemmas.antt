@@ -12,7 +12,7 @@ use Rattle.eg_level2.specs.declared.step.Step.{Step}
 use Rattle.eg_turns.specs.Board.{is_board_own, by_tracks}
 use Rattle.eg_turns.specs.Midway.{Work, rest_of, IsMidway, IsDue, RunLevels}
 use Rattle.eg_turns.specs.Working.{Holds, Works}
-use Rattle.eg_turns.specs.declared.working.Level1.{Level1}
+use Rattle.eg_host.specs.Level1.{Level1Parts}
 use Rattle.eg_turns.specs.declared.working.Task.{Task}
 use Rattle.eg_turns.proofs.FrameLemmas.{shown-words, shown-mirrors, shown-code, shown-world}
 use Rattle.eg_turns.proofs.MidwayLemmas.{all-words, all-world}
@@ -51,7 +51,7 @@ ended (Ok step) slices w m memory same nine is = ends w m memory (ap length same
 ended (Err e) slices w m memory same nine is = tt
 
 -- memory ran out while the board stored
-pub refused : {parts : Level2Parts} {x : Effects} {task : Task} {before after : Level1} {old shown : ShownMemory} {T E F : Type 0} {e : E}
+pub refused : {parts : Level2Parts} {x : Effects} {task : Task} {before after : Level1Parts} {old shown : ShownMemory} {T E F : Type 0} {e : E}
     (result : Result Step F) → IsErr result → (let refused : Result T E = Err e in KeepsMemory old shown refused)
     → Works parts x task before after old shown result
 refused {old = old} {shown = shown} {e = e} result is keeps = record {
@@ -63,16 +63,16 @@ refused {old = old} {shown = shown} {e = e} result is keeps = record {
 }
 
 -- the turns ran behind it
-pub worked : {parts : Level2Parts} {x : Effects} {task : Task} {before after : Level1} {old shown new : ShownMemory} {T E F : Type 0} {made : T}
+pub worked : {parts : Level2Parts} {x : Effects} {task : Task} {before after : Level1Parts} {old shown new : ShownMemory} {T E F : Type 0} {made : T}
     (result : Result Step F) → AreWords old.words → SameOutside is_board_own old.words shown.words
     → readings_of shown.words ≡ by_tracks task.readings → asked_of shown.words ≡ task.asked
     → (let done : Result T E = Ok made in KeepsMemory old shown done) → RunLevels parts x task before after shown new result
     → Works parts x task before after old new result
 worked {parts} {x} {task} {before} {after} {old} {shown} {new} {made = made} result are same readings asked keeps runs = record {
-  holds = λ w due held. ended result task.slices w after.host.registers new.words due.budgets runs.nine
-      (runs.midway w due (begins parts x task w before.host.registers old.words shown.words due are (keeps.are_words are) same readings asked held));
+  holds = λ w due held. ended result task.slices w after.registers new.words due.budgets runs.nine
+      (runs.midway w due (begins parts x task w before.registers old.words shown.words due are (keeps.are_words are) same readings asked held));
   step = λ w due held. runs.step w due
-      (begins parts x task w before.host.registers old.words shown.words due are (keeps.are_words are) same readings asked held);
+      (begins parts x task w before.registers old.words shown.words due are (keeps.are_words are) same readings asked held);
   nine = runs.nine;
   program = on_ok_weaker result (λ ready. ready.decoded) runs.ready;
   keeps = keeps_then old shown new made result keeps runs.keeps;

@@ -20,7 +20,7 @@ use Rattle.eg_fault.specs.Effects.{Effects}
 use Rattle.eg_host.specs.Slices.{slices_from}
 use Rattle.eg_turns.specs.Board.{by_tracks, ten_ports}
 use Rattle.eg_turns.specs.declared.working.Task.{Task}
-use Rattle.eg_turns.specs.declared.working.Level1.{Level1}
+use Rattle.eg_host.specs.Level1.{Level1Parts}
 
 -- What a tick begins with: the image, what level 2 meets (`doing`) and its words; whether level 1 runs, how
 -- many instructions it may do in each slice, and its world.
@@ -131,10 +131,10 @@ tick_step d words = record {
 
 -- The turn of this number in a tick of this task: a slice of level 1, and then the module.
 pub record IsTurn {E : Type 0} (parts : Level2Parts) (x : Effects) (task : Task) (number : ℕ)
-    (before after : Level1) (old new : ShownMemory) (result : Result Step E) : Type 0 where
-  pub midway : (w : Work) → IsDue parts x task w → IsMidway w number number before.host.registers old.words →
-      OnOk result (IsMidway w (number + 1) (number + 1) after.host.registers new.words)
-  pub step : (w : Work) → IsDue parts x task w → IsMidway w number number before.host.registers old.words →
+    (before after : Level1Parts) (old new : ShownMemory) (result : Result Step E) : Type 0 where
+  pub midway : (w : Work) → IsDue parts x task w → IsMidway w number number before.registers old.words →
+      OnOk result (IsMidway w (number + 1) (number + 1) after.registers new.words)
+  pub step : (w : Work) → IsDue parts x task w → IsMidway w number number before.registers old.words →
       IfOk result (λ step. step ≡ step_at w.doing number w.words)
   pub ready : OnOk result (IsReady parts.rules after.program new.words)
   pub prepared : OnOk result (IsPrepared parts (asked_of new.words) task.prepared)

@@ -17,10 +17,11 @@ ghost use Rattle.eg_turns.specs.Midway;
 ghost use Rattle.eg_turns.specs.Midway.{Work, IsMidway, IsReady, IsTurn, RunLevels, Meets, step_at};
 
 use crate::board::flip;
-use crate::working::{Level1, Task};
+use crate::working::Task;
 use eg_base::NoMemory;
 use eg_fault::{Fault, ModuleRuns, fault_of_levels, level1_runs, module_runs};
 use eg_guard::Guarded;
+use eg_host::Level1;
 use eg_level2::{Level2, Step, Watches};
 
 /// A slice of level 1 at a tick at which it runs (docs/CONCEPT.md, "Level 1").
@@ -29,8 +30,8 @@ fn slice<M: Guarded>(level1: &mut Level1, memory: &mut M, budget: u16) -> Result
     requires { IsProgramOf (M.shows memory.old).words level1.old.program }
     ensures midway { (w : Work) (j : ℕ) → w.level1 ≡ true → j < length w.slices
         → slice_index w.slices j ≡ budget
-        → IsMidway w j j level1.old.host.registers (M.shows memory.old).words
-        → OnOk result (IsMidway w (j + 1) j level1.new.host.registers (M.shows memory.new).words) }
+        → IsMidway w j j level1.old.registers (M.shows memory.old).words
+        → OnOk result (IsMidway w (j + 1) j level1.new.registers (M.shows memory.new).words) }
     ensures ready { (rules : Rules) → IsReady rules level1.old.program (M.shows memory.old).words
         → IsReady rules level1.new.program (M.shows memory.new).words }
     ensures asked { asked_of (M.shows memory.new).words ≡ asked_of (M.shows memory.old).words }

@@ -13,4 +13,4 @@ mod working;
 
 pub use board::show;
 pub use reading::{Outputs, signals, word};
-pub use working::{Level1, Task, restart, set_up, work};
+pub use working::{Task, restart, set_up, work};

@@ -5,7 +5,6 @@ ghost use Rattle.eg_guard.specs.declared.regions.TheConstants.{DATA as CODE_END,
 ghost use Rattle.eg_guard.specs.Memory.{KeepsMemory};
 ghost use Rattle.eg_word.specs.Program.{IsProgramOf};
 ghost use Rattle.eg_word.specs.World.{new_world};
-ghost use Rattle.eg_host.specs.Slices.{IsSlice};
 ghost use Rattle.eg_level2.specs.Inputs.{IsPrepared};
 ghost use Rattle.eg_level2.specs.Words.{start};
 ghost use Rattle.eg_fault.specs.Faults.{effects, IsNoneOrValid};
@@ -17,10 +16,9 @@ use crate::levels::run_levels;
 use eg_base::NoMemory;
 use eg_fault::Fault;
 use eg_guard::Guarded;
-use eg_host::{Host, Slices};
+use eg_host::{Level1, Slices};
 use eg_level2::{Level2, Phase, Prepared, Step};
 use eg_sensor::Readings;
-use eg_word::Program;
 
 /// What level 1 and level 2 are handed at a tick (docs/CONCEPT.md, "A run, tick by tick").
 #[derive(Clone, Copy)]
@@ -41,28 +39,6 @@ pub struct Task {
     pub slices: Slices,
 }
 
-/// Level 1 as a controller keeps it: its machine, and the program of its code (docs/CONCEPT.md, "Level 1").
-#[derive(Drop)]
-pub struct Level1 {
-    /// Its machine.
-    pub host: Host,
-    /// The program of its code.
-    pub program: Program,
-}
-
-impl Level1 {
-    /// A slice of it. Machine and program stand together, so that a slice is handed one pointer for both.
-    #[inline(never)]
-    pub(crate) fn slice<M: Guarded>(&mut self, memory: &mut M, budget: u16) -> Result<(), NoMemory>
-        requires { IsProgramOf (M.shows memory.old).words self.old.program }
-        ensures slice { IsSlice budget self.old.host.registers self.new.host.registers
-            (M.shows memory.old) (M.shows memory.new) result }
-        ensures program { self.new.program ≡ self.old.program }
-    {
-        self.host.slice_of(&self.program, memory, budget)
-    }
-}
-
 /// Level 1 and level 2 as a run begins, in a memory of 0s: the image, which has at most 1,024 words, is
 /// loaded, and level 2's words are put to their start (docs/CONCEPT.md, "Level 1" and "Level 2"). NoMemory is
 /// the one refusal.
@@ -74,16 +50,13 @@ pub fn set_up<M: Guarded>(
     requires fits { length image.now ≤ CODE_END }
     requires zeros { (M.shows memory.old).words ≡ replicate WORDS 0 }
     ensures holds { IfOk result (λ level1.
-        Holds image.now start new_world level1.host.registers (M.shows memory.new).words) }
+        Holds image.now start new_world level1.registers (M.shows memory.new).words) }
     ensures program { IfOk result (λ level1. IsProgramOf (M.shows memory.new).words level1.program) }
     ensures keeps { KeepsMemory (M.shows memory.old) (M.shows memory.new) result }
 {
     load_image(memory, image)?;
     level2.reset(memory)?;
-    Ok(Level1 {
-        host: Host::new(),
-        program: Program::new(image),
-    })
+    Ok(Level1::new(image))
 }
 
 /// Level 1 and level 2 as a span begins: all is as at the start of a run (docs/CONCEPT.md, "Power cycles").
@@ -96,13 +69,13 @@ pub fn restart<M: Guarded>(
     requires { IsReady level2.now.rules level1.old.program (M.shows memory.old).words }
     ensures holds { (image : List ℕ) → ((k : ℕ) → k < CODE_END
         → slice_index (M.shows memory.old).words k ≡ slice_index image k)
-        → OnOk result (Holds image start new_world level1.new.host.registers (M.shows memory.new).words) }
+        → OnOk result (Holds image start new_world level1.new.registers (M.shows memory.new).words) }
     ensures ready { OnOk result (IsReady level2.now.rules level1.new.program (M.shows memory.new).words) }
     ensures keeps { KeepsMemory (M.shows memory.old) (M.shows memory.new) result }
 {
     clear(memory)?;
     level2.reset(memory)?;
-    level1.host = Host::new();
+    level1.restart();
     Ok(())
 }
 

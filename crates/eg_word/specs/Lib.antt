@@ -4,3 +4,4 @@ pub mod Memory
 pub mod World
 pub mod Program
 pub mod Steps
+pub mod Alone

@@ -15,7 +15,7 @@ mod registers;
 
 pub use images::{FULL, IDLE};
 pub use instruction::{Instruction, decode};
-pub use machine::{step, step_on};
+pub use machine::{step, step_alone, step_on};
 pub use program::Program;
 pub use register::Register;
 pub use registers::{Registers, State, Trap};

@@ -1,8 +1,11 @@
 // One step of level 1's machine over a guarded memory.
-ghost use Rattle.std.specs.Prelude.{◌≡◌, ◌≢◌, IsTrue, IsFalse, IfOk};
+ghost use Rattle.std.specs.Prelude.{◌≡◌, ◌≢◌, ℕ, Option, IsTrue, IsFalse, IfOk};
 ghost use Rattle.std.specs.Option.{option_copied, ForSome};
+ghost use Rattle.eg_word.specs.declared.instruction.Instruction.TheVariants.{Ld, St};
 ghost use Rattle.eg_word.specs.declared.registers.State.TheVariants.{Running, Trapped};
-ghost use Rattle.eg_word.specs.Machine.{effect, load_into, store_at, step as one_step};
+ghost use Rattle.eg_word.specs.Alone;
+ghost use Rattle.eg_word.specs.Alone.{alone};
+ghost use Rattle.eg_word.specs.Machine.{effect, no_store, load_into, store_at, step as one_step};
 ghost use Rattle.eg_word.specs.Memory.{load_from};
 ghost use Rattle.eg_word.specs.Program.{IsProgramOf};
 ghost use Rattle.eg_word.specs.Steps.{Makes, IsOneStep};
@@ -52,6 +55,32 @@ pub fn step_on<M: Guarded>(
     ensures ends { IfOk result (λ runs. IsFalse runs → registers.new.state ≢ Running) }
 {
     fetch(registers, memory, program)
+}
+
+/// One step of a machine that runs, over its program alone, or None where the step loads or stores, or leaves
+/// the code.
+#[tactic(auto, unfolding(crate::specs::Alone::after_alone, crate::specs::Alone::needs_memory))]
+pub fn step_alone(registers: &Registers, program: &Program) -> Option<Registers>
+    ensures { result ≡ alone program.now registers.now }
+{
+    let instruction = program.instruction_at(registers.pc)?;
+    if needs_memory(instruction) {
+        return None;
+    }
+    let mut next = *registers;
+    compute(instruction, &mut next);
+    Some(next)
+}
+
+/// Whether an instruction loads or stores.
+#[tactic(auto, unfolding(crate::specs::Alone::needs_memory))]
+fn needs_memory(instruction: &Instruction) -> bool
+    ensures { result ≡ Alone.needs_memory instruction.now }
+{
+    matches!(
+        *instruction,
+        Instruction::Ld { .. } | Instruction::St { .. }
+    )
 }
 
 /// `step`, said by the table of instructions alone: does the instruction at `pc`, where the machine runs.
@@ -125,7 +154,45 @@ fn fetch_loaded<M: Guarded>(registers: &mut Registers, memory: &mut M) -> Result
     execute(&instruction, registers, memory)
 }
 
+// What an instruction does, and whether the machine runs on. A caller says what becomes of loads and stores.
+// By a macro each of the two callers has one table to jump by.
+macro_rules! perform {
+    ($instruction:ident, $registers:ident, $($memory:tt)*) => {
+        match *$instruction {
+            $($memory)*
+            Instruction::Nop => $registers.jump($registers.next()),
+            Instruction::Ldi { a, n } => $registers.set(a, n),
+            Instruction::Ldx { a, n } => {
+                $registers.set(a, $registers.get(a).wrapping_mul(128).wrapping_add(n % 128))
+            }
+            Instruction::Mov { a, b } => $registers.set(a, $registers.get(b)),
+            Instruction::Add { a, b, c } => {
+                $registers.set(a, $registers.get(b).wrapping_add($registers.get(c)))
+            }
+            Instruction::Sub { a, b, c } => {
+                $registers.set(a, $registers.get(b).wrapping_sub($registers.get(c)))
+            }
+            Instruction::And { a, b, c } => $registers.set(a, $registers.get(b) & $registers.get(c)),
+            Instruction::Or { a, b, c } => $registers.set(a, $registers.get(b) | $registers.get(c)),
+            Instruction::Xor { a, b, c } => $registers.set(a, $registers.get(b) ^ $registers.get(c)),
+            Instruction::Shr { a, b, n } => $registers.set(a, $registers.get(b).wrapping_shr(n.into())),
+            Instruction::Mul { a, b, c } => {
+                $registers.set(a, $registers.get(b).wrapping_mul($registers.get(c)))
+            }
+            Instruction::Jz { a, d } => $registers.jump_if($registers.get(a) == 0, d),
+            Instruction::Jlt { a, b, d } => $registers.jump_if(
+                $registers.get(a) < $registers.get(b),
+                i16::from(d),
+            ),
+            Instruction::Wait => $registers.wait(),
+            Instruction::Jr { a } => $registers.jump($registers.get(a)),
+            Instruction::Illegal => $registers.trap(Trap::Illegal),
+        }
+    };
+}
+
 /// Does an instruction, and tells whether the machine runs on.
+#[inline(always)]
 #[tactic(auto, using(crate::proofs::MachineLemmas::loads_stored), unfolding(crate::specs::Machine::effect))]
 fn execute<M: Guarded>(
     instruction: &Instruction,
@@ -137,26 +204,7 @@ fn execute<M: Guarded>(
     ensures runs { IfOk result (λ runs. IsTrue runs → registers.new.state ≡ registers.old.state) }
     ensures ends { IfOk result (λ runs. IsFalse runs → registers.new.state ≢ Running) }
 {
-    let runs = match *instruction {
-        Instruction::Nop => registers.jump(registers.next()),
-        Instruction::Ldi { a, n } => registers.set(a, n),
-        Instruction::Ldx { a, n } => {
-            registers.set(a, registers.get(a).wrapping_mul(128).wrapping_add(n % 128))
-        }
-        Instruction::Mov { a, b } => registers.set(a, registers.get(b)),
-        Instruction::Add { a, b, c } => {
-            registers.set(a, registers.get(b).wrapping_add(registers.get(c)))
-        }
-        Instruction::Sub { a, b, c } => {
-            registers.set(a, registers.get(b).wrapping_sub(registers.get(c)))
-        }
-        Instruction::And { a, b, c } => registers.set(a, registers.get(b) & registers.get(c)),
-        Instruction::Or { a, b, c } => registers.set(a, registers.get(b) | registers.get(c)),
-        Instruction::Xor { a, b, c } => registers.set(a, registers.get(b) ^ registers.get(c)),
-        Instruction::Shr { a, b, n } => registers.set(a, registers.get(b).wrapping_shr(n.into())),
-        Instruction::Mul { a, b, c } => {
-            registers.set(a, registers.get(b).wrapping_mul(registers.get(c)))
-        }
+    let runs = perform!(instruction, registers,
         Instruction::Ld { a, b, n } => {
             let address = registers.get(b).wrapping_add(u16::from(n));
             load(registers, memory, a, address)
@@ -165,16 +213,20 @@ fn execute<M: Guarded>(
             let address = registers.get(b).wrapping_add(u16::from(n));
             return store(registers, memory, address, registers.get(a));
         }
-        Instruction::Jz { a, d } => registers.jump_if(registers.get(a) == 0, d),
-        Instruction::Jlt { a, b, d } => registers.jump_if(
-            registers.get(a) < registers.get(b),
-            i16::from(d),
-        ),
-        Instruction::Wait => registers.wait(),
-        Instruction::Jr { a } => registers.jump(registers.get(a)),
-        Instruction::Illegal => registers.trap(Trap::Illegal),
-    };
+    );
     Ok(runs)
+}
+
+/// Does an instruction that needs no memory.
+#[tactic(auto, unfolding(crate::specs::Machine::effect))]
+fn compute(instruction: &Instruction, registers: &mut Registers)
+    requires no_load { (a b n : ℕ) → instruction.now ≢ Ld a b n }
+    requires no_store { (a b n : ℕ) → instruction.now ≢ St a b n }
+    ensures { (load : ℕ → Option ℕ)
+        → effect load registers.old instruction.now ≡ no_store registers.new }
+{
+    let _runs =
+        perform!(instruction, registers, Instruction::Ld { .. } | Instruction::St { .. } => unreachable!(),);
 }
 
 /// Puts the word at that address into a register, or traps where level 1 may not load it. Tells whether the

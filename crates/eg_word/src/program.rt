@@ -1,8 +1,10 @@
 // The code of level 1 as instructions.
 ghost use Rattle.std.specs.Prelude.{◌≡◌, ◌<◌, ◌≤◌, ◌↔◌, length, replicate, slice_index, slice_index_or};
 ghost use Rattle.std.specs.Prelude.{IsOk, IfOk};
+ghost use Rattle.std.specs.Option.{option_copied};
 ghost use Rattle.eg_guard.specs.declared.regions.TheConstants.{DATA as CODE_END};
 ghost use Rattle.eg_word.specs.declared.instruction.Instruction.{Instruction};
+ghost use Rattle.eg_word.specs.Alone;
 ghost use Rattle.eg_word.specs.Instructions.{instruction_of};
 ghost use Rattle.eg_word.specs.Program.{IsProgramOf};
 
@@ -68,6 +70,18 @@ impl Program {
             return Err(Refused);
         }
         Ok(self.at(address))
+    }
+
+    /// The instruction at that address, or None outside the code.
+    #[inline]
+    #[tactic(auto, unfolding(crate::specs::Alone::instruction_at))]
+    pub(crate) fn instruction_at(&self, address: u16) -> Option<&Instruction>
+        ensures { option_copied result ≡ Alone.instruction_at self.now address }
+    {
+        if address >= DATA {
+            return None;
+        }
+        Some(self.at(address))
     }
 
     /// The instruction at an address of the code.

@@ -12,7 +12,6 @@ use eg_fault::Fault;
 use eg_guard::{CopyMemory, Guarded};
 use eg_level2::Level2;
 use eg_plant::{CopyEngine, Engine};
-use eg_turns::Level1;
 use std::alloc::Global;
 
 impl<E: Engine + Drop, M: Guarded + Drop> Controller<E, M> {
@@ -77,6 +76,7 @@ impl<E: CopyEngine + Drop, M: Guarded + Drop> Controller<E, M> {
     {
         let calibration = self.calibration.copy();
         let level2 = Level2::new(calibration.rules().copy(), calibration.questions().copy());
+        let level1 = self.level1.copy();
         let engine = self.engine.copy();
         Controller {
             calibration,
@@ -84,7 +84,7 @@ impl<E: CopyEngine + Drop, M: Guarded + Drop> Controller<E, M> {
             level2,
             test_ticks: self.test_ticks,
             span: copy_of_span(&self.span),
-            level1: copy_of_level1(&self.level1),
+            level1,
             memory,
             engine,
             ticks: self.ticks,
@@ -107,15 +107,5 @@ fn copy_of_span(span: &Span) -> Span
         monitor: span.monitor.copy(),
         open1: span.open1,
         open2: span.open2,
-    }
-}
-
-/// An equal level 1: its machine, and its program. It takes no memory.
-fn copy_of_level1(level1: &Level1) -> Level1
-    ensures { result ≡ level1.now }
-{
-    Level1 {
-        host: level1.host,
-        program: level1.program.copy(),
     }
 }

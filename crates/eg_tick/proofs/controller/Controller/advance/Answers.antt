@@ -40,7 +40,7 @@ enter-requires g c =
 
 pub next_tick-requires : goal.next_tick-requires
 next_tick-requires g c =
-    few-in _ (c.self.invariant.keeps.stands c.if-self.false) c.args.drive.now _ c.enter.new.span c.enter.new.level1.host.registers (g.M.Guarded.shows c.enter.new.memory)
+    few-in _ (c.self.invariant.keeps.stands c.if-self.false) c.args.drive.now _ c.enter.new.span c.enter.new.level1.registers (g.M.Guarded.shows c.enter.new.memory)
     c.reset.ensures.reset c.in_ok-enter.ensures.holds (subst (λ v. v < 20000) (sym (ap (λ v. v.kept.ticks) c.self.view_is)) c.requires.fewer)
 
 pub step_engine-requires : goal.step_engine-requires
@@ -50,23 +50,23 @@ step_engine-requires g c x is =
 
 pub overflow_cast-task : goal.overflow_cast-task
 overflow_cast-task g c =
-    let few = few-in _ (c.self.invariant.keeps.stands c.if-self.false) c.args.drive.now _ c.enter.new.span c.enter.new.level1.host.registers (g.M.Guarded.shows c.enter.new.memory)
+    let few = few-in _ (c.self.invariant.keeps.stands c.if-self.false) c.args.drive.now _ c.enter.new.span c.enter.new.level1.registers (g.M.Guarded.shows c.enter.new.memory)
     c.reset.ensures.reset c.in_ok-enter.ensures.holds (subst (λ v. v < 20000) (sym (ap (λ v. v.kept.ticks) c.self.view_is)) c.requires.fewer) in
     omega (arith, few)
 
 pub judge-judged-requires-clause-period : goal.judge-judged-requires-clause-period
 judge-judged-requires-clause-period g c tame =
-    period-in _ (c.self.invariant.keeps.stands c.if-self.false) c.args.drive.now _ c.enter.new.span c.enter.new.level1.host.registers (g.M.Guarded.shows c.enter.new.memory)
+    period-in _ (c.self.invariant.keeps.stands c.if-self.false) c.args.drive.now _ c.enter.new.span c.enter.new.level1.registers (g.M.Guarded.shows c.enter.new.memory)
     c.reset.ensures.reset c.in_ok-enter.ensures.holds (subst (λ f. (effects f c.self.inside.ticks).wild ≡ None) c.as_ref-fault.ensures.value tame)
 
 pub judge-judged-requires-clause-later : goal.judge-judged-requires-clause-later
 judge-judged-requires-clause-later g c tame =
-    later-in _ (c.self.invariant.keeps.stands c.if-self.false) c.args.drive.now _ c.enter.new.span c.enter.new.level1.host.registers (g.M.Guarded.shows c.enter.new.memory)
+    later-in _ (c.self.invariant.keeps.stands c.if-self.false) c.args.drive.now _ c.enter.new.span c.enter.new.level1.registers (g.M.Guarded.shows c.enter.new.memory)
     c.reset.ensures.reset c.in_ok-enter.ensures.holds (subst (λ f. (effects f c.self.inside.ticks).wild ≡ None) c.as_ref-fault.ensures.value tame)
 
 pub note-requires : goal.note-requires
 note-requires g c =
-    few-in _ (c.self.invariant.keeps.stands c.if-self.false) c.args.drive.now _ c.enter.new.span c.enter.new.level1.host.registers (g.M.Guarded.shows c.enter.new.memory)
+    few-in _ (c.self.invariant.keeps.stands c.if-self.false) c.args.drive.now _ c.enter.new.span c.enter.new.level1.registers (g.M.Guarded.shows c.enter.new.memory)
     c.reset.ensures.reset c.in_ok-enter.ensures.holds (subst (λ v. v < 20000) (sym (ap (λ v. v.kept.ticks) c.self.view_is)) c.requires.fewer)
 
 -- ---- the tick that was made ----
@@ -79,7 +79,7 @@ before g c = record {
   ticks = c.self.inside.ticks;
   span = c.self.inside.span;
   memory = g.M.Guarded.shows c.self.inside.memory;
-  registers = c.self.inside.level1.host.registers;
+  registers = c.self.inside.level1.registers;
   trap = c.self.inside.trap;
   kt = g.E.Engine.kt c.self.inside.engine;
   shown = g.E.Engine.shows c.self.inside.engine;
@@ -87,7 +87,7 @@ before g c = record {
 }
 
 abbrev old : (g : Over) → goal.After-row g → Kept
-old g c = entered (before g c) c.enter.new.span c.enter.new.level1.host.registers (g.M.Guarded.shows c.enter.new.memory)
+old g c = entered (before g c) c.enter.new.span c.enter.new.level1.registers (g.M.Guarded.shows c.enter.new.memory)
 
 abbrev new : (g : Over) → goal.After-row g → Kept
 new g c = record {
@@ -96,7 +96,7 @@ new g c = record {
   ticks = c.self.inside.ticks + 1;
   span = c.note.new.self;
   memory = g.M.Guarded.shows c.work.new.memory;
-  registers = c.work.new.level1.host.registers;
+  registers = c.work.new.level1.registers;
   trap = c.note_trap.new.trap;
   kt = g.E.Engine.kt c.step_engine.new.engine;
   shown = g.E.Engine.shows c.step_engine.new.engine;
@@ -207,7 +207,7 @@ was g c s h = subst (λ v. Stands s v h) (sym (ap (λ v. v.kept) c.self.view_is)
 enter : (g : Over) (c : goal.After-row g) (s : Setting) (h : List Entry) → Stands s (before g c) h → Enters s (old g c) (entry g c) h
 unfolding entry_of
 enter g c s h stands =
-    enters s (before g c) (entry g c) h _ c.enter.new.span c.enter.new.level1.host.registers (g.M.Guarded.shows c.enter.new.memory) stands
+    enters s (before g c) (entry g c) h _ c.enter.new.span c.enter.new.level1.registers (g.M.Guarded.shows c.enter.new.memory) stands
     c.reset.ensures.reset c.in_ok-enter.ensures.holds
 
 goes : (g : Over) (c : goal.After-row g) (s : Setting) (h : List Entry) → Stands s (before g c) h → Stands s (new g c) (entry g c ∷ h)
@@ -285,7 +285,7 @@ returns-in_err-enter g c = ran_out c.from_residual.result c.from_residual.ensure
 pub returns-in_err-step : goal.returns-in_err-step
 returns-in_err-step g c = ran_out c.from_residual-in_err-step.result c.from_residual-in_err-step.ensures.0 c.self.view_is c.if-self.false c.self.invariant.keeps refl
     (keeps_then _ _ _ _ _ c.in_ok-enter.ensures.keeps c.in_err-step.ensures.keeps)
-    (λ s h stands. stepped g.E.Engine.steps s c.args.drive.now c.args.slices.now _ h c.args.self.now.kept _ c.enter.new.span c.enter.new.level1.host.registers
+    (λ s h stands. stepped g.E.Engine.steps s c.args.drive.now c.args.slices.now _ h c.args.self.now.kept _ c.enter.new.span c.enter.new.level1.registers
     (g.M.Guarded.shows c.enter.new.memory) _ c.at.result _ c.held-held_plate.result _ _ c.step_engine.new.engine (ap (λ v. v.kept) c.self.view_is)
     c.as_ref-fault.ensures.value (ap (λ v. v.engine) c.self.view_is) stands c.reset.ensures.reset c.in_ok-enter.ensures.holds c.at.ensures.path1 c.at.ensures.path2
     c.at.ensures.on c.held-held_plate.ensures c.step_engine.ensures.steps)

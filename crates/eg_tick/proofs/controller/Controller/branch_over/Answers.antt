@@ -6,7 +6,7 @@ use Rattle.eg_level2.specs.Inputs.{IsLookup}
 use Rattle.eg_model.specs.Branching.{BeginsFrom, under}
 use Rattle.eg_tick.specs.Kept.{Kept}
 use Rattle.eg_tick.specs.Stands.{Stands, IsController}
-use Rattle.eg_turns.specs.declared.working.Level1.{Level1}
+use Rattle.eg_host.specs.Level1.{Level1Parts}
 use Rattle.eg_tick.proofs.BranchLemmas.{branch_of, branch_stands, branch_is}
 use Rattle.eg_tick.proofs.controller.Controller.branch_over.Given.{Over}
 use Rattle.eg_tick.proofs.controller.Controller.branch_over.Goals as goal
@@ -19,7 +19,7 @@ old g c = record {
   ticks = c.self.inside.ticks;
   span = c.self.inside.span;
   memory = g.M.Guarded.shows c.self.inside.memory;
-  registers = c.self.inside.level1.host.registers;
+  registers = c.self.inside.level1.registers;
   trap = c.self.inside.trap;
   kt = g.E.Engine.kt c.self.inside.engine;
   shown = g.E.Engine.shows c.self.inside.engine;
@@ -33,7 +33,7 @@ new g c = record {
   ticks = c.self.inside.ticks;
   span = c.copy_of_span.result;
   memory = g.N.Guarded.shows c.args.memory;
-  registers = c.copy_of_level1.result.host.registers;
+  registers = c.copy-level1.result.registers;
   trap = c.self.inside.trap;
   kt = g.E.Engine.kt c.copy-engine.result;
   shown = g.E.Engine.shows c.copy-engine.result;
@@ -47,7 +47,7 @@ alike g c = λ i. record (old g c) {
   fault = c.args.fault;
   span = c.copy_of_span.ensures i;
   memory = g.N.Guarded.shows c.args.memory;
-  registers = ap (λ (l : Level1). l.host.registers) c.copy_of_level1.ensures i;
+  registers = ap (λ (l : Level1Parts). l.registers) c.copy-level1.ensures i;
   kt = ap g.E.Engine.kt c.copy-engine.ensures i;
   shown = ap g.E.Engine.shows c.copy-engine.ensures i;
 }
@@ -66,8 +66,8 @@ invariant_of-result g c = record {
   parts = c.new-level2.ensures.parts ∙ ap₂ (λ a b. record { rules = a; questions = b }) (c.copy.ensures ∙ c.rules.ensures.rules)
       (c.copy-2.ensures ∙ c.questions.ensures.questions);
   test_ticks_are = c.self.invariant.test_ticks_are ∙ ap (λ (cal : CalibrationParts). test_ticks_of cal.times) (sym c.copy-calibration.ensures);
-  decoded = λ held. subst (λ w. IsProgramOf w c.copy_of_level1.result.program) (sym (words g c))
-      (subst (λ (l : Level1). IsProgramOf (g.M.Guarded.shows c.self.inside.memory).words l.program) (sym c.copy_of_level1.ensures)
+  decoded = λ held. subst (λ w. IsProgramOf w c.copy-level1.result.program) (sym (words g c))
+      (subst (λ (l : Level1Parts). IsProgramOf (g.M.Guarded.shows c.self.inside.memory).words l.program) (sym c.copy-level1.ensures)
       (c.self.invariant.decoded held));
   looked_up = subst (λ (cal : CalibrationParts). IsLookup cal.rules c.self.inside.lookup) (sym c.copy-calibration.ensures) c.self.invariant.looked_up;
   keeps = subst IsController (sym (alike g c)) (branch_is (old g c) c.args.fault _ (sym (ap (λ (k : Kept). k.fault) (was g c)) ∙ c.requires.none)
