@@ -1,6 +1,6 @@
 -- Answers come line by line, and the row of each is written before the next is read. The command ends behind
 -- the last line, or by the first that isn't taken. Answers stand newest first.
-use Rattle.std.specs.Prelude.{◌≡◌, ℕ, ◌+◌, nat_le, List, [], ◌∷◌, length, reverse, Result, Ok, Err, if◌then◌else◌}
+use Rattle.std.specs.Prelude.{◌≡◌, ℕ, nat_le, List, [], ◌∷◌, length, reverse, Result, Ok, Err, if◌then◌else◌}
 use Rattle.eg_base.specs.Outside.{ShownSink}
 use Rattle.eg_lines.specs.Lines.{ShownLines}
 use Rattle.eg_input.specs.declared.fault.TraceFault.TheVariants as trace_fault

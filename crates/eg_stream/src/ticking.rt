@@ -14,7 +14,6 @@ use eg_campaign::RunInput;
 use eg_fault::Fault;
 use eg_guard::FlatMemory;
 use eg_host::SlicePlan;
-use eg_num::Drive;
 use eg_plant::ForeignEngine;
 use eg_readings::PartnerAnswer;
 use eg_record::Row;
@@ -75,8 +74,5 @@ pub(crate) fn next_commands(controller: &Controller<ForeignEngine, FlatMemory>) 
     ensures { (unit : CoupledUnit) (answers : List SomeAnswer) → IsCoupled unit answers controller.now
         → result ≡ commands_next unit.setting (entries_by unit answers) }
 {
-    match Drive::new(0, 0, 0, false, false) {
-        Some(drive) => controller.commands(&drive),
-        None => unreachable!("each number is within its limit"),
-    }
+    controller.commands(false)
 }

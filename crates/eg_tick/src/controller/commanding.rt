@@ -1,5 +1,6 @@
 // What a controller commands next, and an engine elsewhere that is told what it shows then.
 ghost use Rattle.std.specs.Prelude.{◌≡◌, ◌&&◌, List, false, not};
+ghost use Rattle.eg_num.specs.Drive.{DriveRow};
 ghost use Rattle.eg_plant.specs.Engine.{KeepsLaws};
 ghost use Rattle.eg_fault.specs.Faults.{effects};
 ghost use Rattle.eg_model.specs.History.{Setting, Entry};
@@ -11,19 +12,18 @@ use crate::Commands;
 use crate::paths::Paths;
 use eg_fault::{PATH_1, PATH_2, conducts, held};
 use eg_guard::Guarded;
-use eg_num::Drive;
 use eg_plant::{Engine, ForeignEngine, PartnerStep};
 use eg_turns::Outputs;
 
 impl<E: Engine + Drop, M: Guarded + Drop> Controller<E, M> {
-    /// What the next tick commands to the engine, with this drive row (docs/CONCEPT.md, "`couple`"). Of the
-    /// row it only matters whether it resets the unit. Nothing changes.
-    pub fn commands(&self, drive: &Drive) -> Commands
-        ensures { (s : Setting) (h : List Entry) → Stands s self.now.kept h
-            → result ≡ commanded_at s drive.now h }
+    /// What the next tick commands to the engine, by whether its drive row resets the unit (docs/CONCEPT.md,
+    /// "`couple`"). Nothing changes.
+    pub fn commands(&self, resets: bool) -> Commands
+        ensures { (s : Setting) (drive : DriveRow) (h : List Entry) → drive.reset ≡ resets
+            → Stands s self.now.kept h → result ≡ commanded_at s drive h }
     {
-        if drive.reset() || self.span.passed {
-            return self.first_commands(drive.reset());
+        if resets || self.span.passed {
+            return self.first_commands(resets);
         }
         let outputs = Outputs::of(&self.memory);
         let fault = self.fault.as_ref();

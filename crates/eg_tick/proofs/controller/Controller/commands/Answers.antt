@@ -5,7 +5,7 @@ use Rattle.eg_tick.specs.Kept.{Kept}
 use Rattle.eg_tick.specs.Stands.{Stands}
 use Rattle.eg_tick.proofs.CommandLemmas.{goes-commands, begun-commands}
 use Rattle.eg_tick.proofs.controller.Controller.commands.Given.{Over}
-use Rattle.eg_tick.proofs.controller.Controller.commands.Goals.{then-reset-via-then-reset, then-reset-via-else-reset+then-self}
+use Rattle.eg_tick.proofs.controller.Controller.commands.Goals.{then-resets-via-then-resets, then-resets-via-else-resets+then-self}
 use Rattle.eg_tick.proofs.controller.Controller.commands.Goals as goal
 
 -- ---- the span goes on ----
@@ -29,7 +29,7 @@ was : (g : Over) (c : goal.After-held g) (s : Setting) (h : List Entry) → Stan
 was g c s h = subst (λ v. Stands s v h) (sym (ap (λ v. v.kept) c.self.view_is))
 
 pub returns : goal.returns
-returns g c s h stands =
+returns g c s drive h is stands =
     let fault = c.as_ref-fault.ensures.value in
     let ticks = c.self.inside.ticks in
     (λ i. record {
@@ -38,30 +38,30 @@ returns g c s h stands =
       on = c.at.result.on;
       held = (c.held.ensures ∙ ap (λ f. (effects f ticks).held_plate) fault) i;
     })
-    ∙ goes-commands s c.args.drive.now h (kept g c) (was g c s h stands) c.at.result
-    (ap₂ (λ a b. a || b) (sym c.reset.ensures.reset ∙ c.if-reset.false) c.if-self.false)
+    ∙ goes-commands s drive h (kept g c) (was g c s h stands) c.at.result
+    (ap₂ (λ a b. a || b) (is ∙ c.if-resets.false) c.if-self.false)
     (c.at.ensures.path1 ∙ ap (λ f. (effects f ticks).conducts 1 c.self.inside.span.open1) fault)
     (c.at.ensures.path2 ∙ ap (λ f. (effects f ticks).conducts 2 c.self.inside.span.open2) fault)
     c.at.ensures.on
 
 -- ---- a span begins ----
 
-begins : (g : Over) (c : goal.After-first_commands g) → (c.args.drive.now.reset || c.self.inside.span.passed) ≡ true
-begins g c = elim c.then-reset.branch [
-  | then-reset-via-then-reset w ↦ ap (λ b. b || c.self.inside.span.passed) (sym c.reset.ensures.reset ∙ w.if-reset.true)
-  | then-reset-via-else-reset+then-self w ↦ ap₂ (λ a b. a || b) (sym c.reset.ensures.reset ∙ w.if-reset.false) w.if-self.true
+begins : (g : Over) (c : goal.After-first_commands g) → (c.args.resets || c.self.inside.span.passed) ≡ true
+begins g c = elim c.then-resets.branch [
+  | then-resets-via-then-resets w ↦ ap (λ b. b || c.self.inside.span.passed) w.if-resets.true
+  | then-resets-via-else-resets+then-self w ↦ ap₂ (λ a b. a || b) w.if-resets.false w.if-self.true
 ]
 
-pub returns-then-reset : goal.returns-then-reset
-returns-then-reset g c s h stands =
+pub returns-then-resets : goal.returns-then-resets
+returns-then-resets g c s drive h is stands =
     let was = c.args.self.now.kept in
     let x = effects was.fault was.ticks in
     (λ i. record {
       throttle = c.first_commands.ensures.throttle i;
       ignition = c.first_commands.ensures.ignition i;
       on = (c.first_commands.ensures.on
-          ∙ ap (λ b. not b && (x.conducts 1 false && x.conducts 2 false)) c.reset-then-reset.ensures.reset) i;
+          ∙ ap (λ b. not b && (x.conducts 1 false && x.conducts 2 false)) (sym is)) i;
       held = c.first_commands.ensures.held i;
     })
-    ∙ begun-commands s c.args.drive.now h was stands
-    (ap (λ v. c.args.drive.now.reset || v.kept.span.passed) (sym c.self.view_is) ∙ begins g c)
+    ∙ begun-commands s drive h was stands
+    (ap₂ (λ b v. b || v.kept.span.passed) is (sym c.self.view_is) ∙ begins g c)
