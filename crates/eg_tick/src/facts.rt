@@ -96,34 +96,28 @@ pub fn bench_facts<E: BenchedEngine, const WEIGHED: bool>(
     } }
 {
     let rules = calibration.rules();
-    facts_by::<E, WEIGHED>(
-        bench_controller::<E>(calibration, image, fault),
-        rules,
-        plan,
-        drive,
-        steps,
-    )
+    let mut controller = bench_controller::<E>(calibration, image, fault);
+    facts_by::<E, WEIGHED>(&mut controller, rules, plan, drive, steps)
 }
 
-/// Runs a drive by a controller that has made no tick, and tells of the run. It isn't inlined, and takes the
-/// controller by value: while one is made, the stack has room for one alone.
+/// Runs a drive by a controller that has made no tick, and tells of the run.
 #[inline(never)]
 fn facts_by<E: BenchedEngine, const WEIGHED: bool>(
-    begun: Controller<E, FlatMemory>,
+    controller: &mut Controller<E, FlatMemory>,
     rules: &Rules,
     plan: &SlicePlan,
     drive: &[Drive],
     steps: &mut Ticks,
 ) -> RunFacts
     requires most { length drive.now ≤ 20000 }
-    requires none { begun.kept.ticks ≡ 0 }
-    requires sure { IsTrue begun.kept.memory.sure }
+    requires none { controller.old.kept.ticks ≡ 0 }
+    requires sure { IsTrue controller.old.kept.memory.sure }
     requires run { (r : Run) × (r.plan ≡ plan.now) × (r.drive ≡ drive.now)
-        × IsAt E.bench E.come_to r 0 begun }
+        × IsAt E.bench E.come_to r 0 controller.old }
     ensures told { (r : Run) → r.plan ≡ plan.now → r.drive ≡ drive.now → r.setting.cal.rules ≡ rules.now →
-        IsAt E.bench E.come_to r 0 begun → IsToldOf WEIGHED E.bench r result }
+        IsAt E.bench E.come_to r 0 controller.old → IsToldOf WEIGHED E.bench r result }
     ensures counted { (r : Run) → r.plan ≡ plan.now → r.drive ≡ drive.now →
-        IsAt E.bench E.come_to r 0 begun → steps.new ≡ record {
+        IsAt E.bench E.come_to r 0 controller.old → steps.new ≡ record {
           count = (steps.old.count + length drive.now) % 2 ^ 64;
           weights = (steps.old.weights + sum (map weight_of (record_rows E.bench r))) % 2 ^ 64;
         } }
@@ -132,11 +126,10 @@ fn facts_by<E: BenchedEngine, const WEIGHED: bool>(
     let _numbers = (steps.count(), steps.sum());
     let mut tally = Tally::new(rules.threshold, rules.torque);
     let mut margins = MarginTally::new();
-    let mut controller = begun;
     for tick in 0..drive.len() {
-        let row = bench_row(&mut controller, plan, &drive[tick], tick as u32, steps);
+        let row = bench_row(controller, plan, &drive[tick], tick as u32, steps);
         tally.feed(&row);
-        weigh::<E, FlatMemory, WEIGHED>(&mut margins, &row, &controller);
+        weigh::<E, FlatMemory, WEIGHED>(&mut margins, &row, controller);
     }
     RunFacts {
         facts: tally.facts(),

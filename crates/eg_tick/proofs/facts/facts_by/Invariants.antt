@@ -20,7 +20,7 @@ invariant-loop-tick g l =
       fed : l.tally.facts.ticks ≡ l.tick;
       threshold : l.tally.threshold ≡ l.rules.threshold;
       weights : l.tally.weights ≡ l.rules.torque;
-      made : (r : Run) → r.plan ≡ l.plan → r.drive ≡ l.drive → IsAt bench come_to r 0 l.fn.begun →
+      made : (r : Run) → r.plan ≡ l.plan → r.drive ≡ l.drive → IsAt bench come_to r 0 l.fn.controller →
           IsAt bench come_to r l.tick l.controller
           × IsTallyOf l.tally (rows_to bench r l.tick)
           × IsMarginTallyOf l.margins (weighed_to (not (g.row.WEIGHED == 0)) bench r l.tick)
