@@ -174,13 +174,13 @@ module _ {S E : Type 0} (weighed : Bool) (b : BenchEngine S) (come_to : ComeTo S
   kept_none wanted kept none = subst (AreCheckpoints weighed b come_to r wanted 0) (sym none) (record {
     enough = omega arith;
     no_more = omega arith;
-    each = λ k below d wants. absurd (omega (arith, below));
+    each = λ k below d late wants. absurd (omega (arith, below));
   })
 
-  -- one more at tick t, where it is wanted
+  -- one more at tick t, where it is wanted and t isn't the first
   pub kept_more : {M : Type 0} (wanted : List Bool) (t : ℕ) (kept after : List (Option (Box (Played E M) Global))) (one : Option (Box (Played E M) Global)) →
       after ≡ kept ++ one ∷ [] → t % checkpoint_ticks ≡ 0 →
-      (IsWantedAt wanted (t / checkpoint_ticks) → IsKept weighed b come_to r t one) →
+      (1 ≤ t → IsWantedAt wanted (t / checkpoint_ticks) → IsKept weighed b come_to r t one) →
       AreCheckpoints weighed b come_to r wanted t kept → AreCheckpoints weighed b come_to r wanted (t + 1) after
   kept_more wanted t kept after one pushed whole played are =
       let long : length (kept ++ one ∷ []) ≡ length kept + 1 = length-append kept (one ∷ []) in
@@ -189,8 +189,9 @@ module _ {S E : Type 0} (weighed : Bool) (b : BenchEngine S) (come_to : ComeTo S
       subst (AreCheckpoints weighed b come_to r wanted (t + 1)) (sym pushed) (record {
         enough = omega (arith, long, here);
         no_more = omega (arith, long, here);
-        each = each-more (λ k one. IsWantedAt wanted k → IsKept weighed b come_to r (k * checkpoint_ticks) one) kept one are.each
-            (λ wants. subst (λ n. IsKept weighed b come_to r n one) here (played (subst (IsWantedAt wanted) (sym place) wants)));
+        each = each-more (λ k one. 1 ≤ k → IsWantedAt wanted k → IsKept weighed b come_to r (k * checkpoint_ticks) one) kept one are.each
+            (λ late wants. subst (λ n. IsKept weighed b come_to r n one) here
+            (played (omega (arith, here, late)) (subst (IsWantedAt wanted) (sym place) wants)));
       })
 
 -- ---- branches ----
@@ -227,13 +228,13 @@ module _ {S E : Type 0} (weighed : Bool) (b : BenchEngine S) (come_to : ComeTo S
 module _ {S E : Type 0} (weighed : Bool) (b : BenchEngine S) (come_to : ComeTo S E) (cal : CalibrationParts) (input : RunInput) (fault : Fault)
     (is : input.plan.fault ≡ Some fault) (within : fault.onset < length input.drive) where
   pub kept_under : (shared : Shared E) → IsSharedBy weighed b come_to (run_with cal (faultless input)).run shared →
-      IsWantedFor shared.wanted (Some fault) → (d : Option (Box (Played E (List ℕ)) Global)) →
+      IsWantedFor shared.wanted (Some fault) → 1 ≤ fault.onset / checkpoint_ticks → (d : Option (Box (Played E (List ℕ)) Global)) →
       IsKept weighed b come_to (run_with cal (faultless input)).run (fault.onset / checkpoint_ticks * checkpoint_ticks)
       (slice_index_or shared.checkpoints.items (fault.onset / checkpoint_ticks) d)
-  kept_under shared kept wants d =
+  kept_under shared kept wants late d =
       let place : ℕ = fault.onset / checkpoint_ticks in
       let below : place < length shared.checkpoints.items = omega (arith, within, kept.checkpoints.enough) in
-      kept.checkpoints.each place below d wants
+      kept.checkpoints.each place below d late wants
 
   pub played_under : (copy : Fault) → copy ≡ fault → {N : Type 0} (from : Played E (List ℕ)) (branch : Played E N) →
       HasPlayed weighed b come_to (run_with cal (faultless input)).run (fault.onset / checkpoint_ticks * checkpoint_ticks) from →

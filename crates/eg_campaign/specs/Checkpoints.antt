@@ -17,6 +17,7 @@ use Rattle.eg_tick.specs.Benched.{ComeTo}
 use Rattle.eg_tick.specs.Run.{IsAt}
 use Rattle.eg_tick.specs.Margins.{weighed_to}
 use Rattle.eg_tick.specs.Facts.{IsToldOf}
+use Rattle.eg_campaign.specs.declared.benches.Benches.{Benches}
 use Rattle.eg_campaign.specs.declared.checkpoints.Played.{Played}
 use Rattle.eg_campaign.specs.declared.checkpoints.Shared.{Shared}
 use Rattle.eg_campaign.specs.declared.play.RunInput.{RunInput}
@@ -29,6 +30,11 @@ use Rattle.eg_campaign.specs.Groups.{faultless, checkpoint_ticks}
 -- the same run under this fault, or without one
 abbrev pub run_under : Option Fault → Run → Run
 run_under fault r = record r { setting = under fault r.setting }
+
+-- both benches are for runs of this calibration
+pub record AreFor (cal : CalibrationParts) (benches : Benches) : Type 0 where
+  pub gasoline : benches.gasoline.controller.kept.cal ≡ cal
+  pub diesel : benches.diesel.controller.kept.cal ≡ cal
 
 -- a run has the slice plan and the drive of an input
 pub record PlaysInput (input : RunInput) (r : Run) : Type 0 where
@@ -81,14 +87,14 @@ abbrev pub AreWantedIn : List RunInput → (leaders : List ℕ) → (index n : �
 AreWantedIn inputs leaders index n wanted = (i : ℕ) → i < n → slice_index_or leaders i 0 ≡ index →
     (input : RunInput) → input ≡ slice_index_or inputs i input → IsWantedFor wanted input.plan.fault
 
--- What is kept of the first n ticks of a run: what was played at tick 0, and at each hundredth tick below n,
+-- What is kept of the first n ticks of a run: what was played at each hundredth tick below n but the first,
 -- where that is wanted.
 pub record AreCheckpoints {S E M : Type 0} (weighed : Bool) (b : BenchEngine S) (come_to : ComeTo S E)
     (r : Run) (wanted : List Bool) (n : ℕ) (kept : List (Option (Box (Played E M) Global))) : Type 0 where
   pub enough : n ≤ length kept * checkpoint_ticks
   pub no_more : length kept * checkpoint_ticks < n + checkpoint_ticks
-  pub each : (k : ℕ) → k < length kept → (d : Option (Box (Played E M) Global)) → IsWantedAt wanted k →
-      IsKept weighed b come_to r (k * checkpoint_ticks) (slice_index_or kept k d)
+  pub each : (k : ℕ) → k < length kept → (d : Option (Box (Played E M) Global)) → 1 ≤ k →
+      IsWantedAt wanted k → IsKept weighed b come_to r (k * checkpoint_ticks) (slice_index_or kept k d)
 
 -- what is shared of a run: its checkpoints, and what is told of it
 pub record IsSharedBy {S E : Type 0} (weighed : Bool) (b : BenchEngine S) (come_to : ComeTo S E) (r : Run)

@@ -1,5 +1,5 @@
 // The run without a fault of a group, and runs under faults that go on from it.
-ghost use Rattle.std.specs.Prelude.{◌≡◌, ℕ, ◌+◌, ◌%◌, ◌/◌, ◌^◌, ◌≤◌, ◌<◌, Bool, List, slice_index_or, false, None, length, reverse, IfOk, OnOk, OnErr, IsOk, IsTrue};
+ghost use Rattle.std.specs.Prelude.{◌≡◌, ℕ, ◌+◌, ◌*◌, ◌%◌, ◌/◌, ◌^◌, ◌≤◌, ◌<◌, Bool, List, slice_index_or, false, None, length, reverse, IfOk, OnOk, OnErr, IsOk, IsTrue};
 ghost use Rattle.std.specs.Option.{option_copied};
 ghost use Rattle.eg_fault.specs.Faults.{IsNoneOrValid};
 ghost use Rattle.eg_values.specs.Calibration.{CalibrationParts};
@@ -9,7 +9,7 @@ ghost use Rattle.eg_model.specs.Rows.{record_rows};
 ghost use Rattle.eg_tick.specs.Weights.{TickCount};
 ghost use Rattle.eg_tick.specs.Facts.{IsToldOf};
 ghost use Rattle.eg_tick.specs.Counting.{count_with, AreCounted};
-ghost use Rattle.eg_campaign.specs.Plays.{IsPlayable, run_with};
+ghost use Rattle.eg_campaign.specs.Plays.{IsPlayable, IsPlayed, run_with};
 ghost use Rattle.eg_campaign.specs.Groups.{faultless, checkpoint_ticks, input_under, own_on};
 ghost use Rattle.eg_campaign.specs.Checkpoints.{run_under, PlaysInput, HasPlayed, HasMade, AreCheckpoints, IsSharedFor, IsWantedFor};
 
@@ -22,7 +22,10 @@ use eg_guard::{FlatMemory, Guarded};
 use eg_pages::PagedMemory;
 use eg_plant::CopyEngine;
 use eg_record::{MarginTally, RunFacts, Tally};
-use eg_tick::{BenchedEngine, Controller, Ticks, bench_begin, bench_tick, weigh};
+use eg_tick::{
+    BenchedEngine, Controller, Ticks, bench_begin, bench_controller, bench_restart, bench_tick,
+    weigh,
+};
 use eg_values::Calibration;
 use std::alloc::Global;
 
@@ -38,6 +41,9 @@ pub(crate) struct Played<E: BenchedEngine + CopyEngine, M: Guarded + Drop> {
     margins: MarginTally,
 }
 
+/// Where runs of an engine are played, one after another: what was played of the last one.
+pub(crate) type Bench<E> = Played<E, FlatMemory>;
+
 /// What is kept of a run: its memory is in pages, so that what stays the same is meant to be kept once.
 pub(crate) type Checkpoint<E> = Played<E, PagedMemory>;
 
@@ -49,9 +55,45 @@ pub(crate) struct Shared<E: BenchedEngine + CopyEngine> {
     pub(crate) told: RunFacts,
 }
 
-/// Plays the run of an input without its fault, and keeps it at each hundredth tick that is wanted: up to its
-/// onset a run under a fault is the run without one (docs/CONCEPT.md, "Faults"). The ticks are counted in
-/// `steps`. NoMemory is its one refusal. Where the run is `WEIGHED`, it tells how near it came to a cut.
+/// A bench on which no run was played yet, for runs of this calibration.
+#[inline(never)]
+pub(crate) fn bench<E: BenchedEngine + CopyEngine>(calibration: &Calibration) -> Bench<E>
+    ensures { result.controller.kept.cal ≡ calibration.now }
+{
+    let rules = calibration.rules();
+    let none: [u16; 0] = [];
+    Played {
+        controller: bench_controller::<E>(calibration, &none, None),
+        tally: Tally::new(rules.threshold, rules.torque),
+        margins: MarginTally::new(),
+    }
+}
+
+/// Plays the run of an input that is alone on this bench, and tells of it. The ticks are counted in `steps`.
+/// It takes no memory and refuses nothing.
+#[inline(never)]
+pub(crate) fn play_alone<E: BenchedEngine + CopyEngine, const WEIGHED: bool>(
+    played: &mut Bench<E>,
+    calibration: &Calibration,
+    input: &RunInput,
+    steps: &mut Ticks,
+) -> RunFacts
+    requires playable { IsPlayable input.now }
+    requires bench { played.old.controller.kept.cal ≡ calibration.now }
+    ensures told { IsPlayed WEIGHED E.bench (run_with calibration.now input.now).run
+        steps.old steps.new result }
+    ensures bench { played.new.controller.kept.cal ≡ calibration.now }
+{
+    let fault = input.plan.fault.as_ref();
+    begin(played, calibration, input, fault);
+    play_on::<E, WEIGHED>(played, input, 0, steps);
+    told_so_far(played)
+}
+
+/// Plays the run of an input without its fault, and keeps it at each hundredth tick that is wanted, but for
+/// the first: up to its onset a run under a fault is the run without one (docs/CONCEPT.md, "Faults"). The
+/// ticks are counted in `steps`. NoMemory is its one refusal. Where the run is `WEIGHED`, it tells how near
+/// it came to a cut.
 #[inline(never)]
 pub(crate) fn share<E: BenchedEngine + CopyEngine, const WEIGHED: bool>(
     alloc: Global,
@@ -69,7 +111,7 @@ pub(crate) fn share<E: BenchedEngine + CopyEngine, const WEIGHED: bool>(
 {
     // Called for its clause alone.
     count_none(steps);
-    let mut played = begin::<E>(alloc, calibration, input)?;
+    let mut played = begin_paged::<E>(alloc, calibration, input)?;
     let mut checkpoints = Vec::new(alloc);
     for tick in 0..input.drive.as_slice().len() {
         keep(alloc, wanted, &mut checkpoints, &played, tick)?;
@@ -82,8 +124,8 @@ pub(crate) fn share<E: BenchedEngine + CopyEngine, const WEIGHED: bool>(
     })
 }
 
-/// The run of an input without its fault, of which no tick was played.
-fn begin<E: BenchedEngine + CopyEngine>(
+/// The run of an input without its fault, of which no tick was played, over pages.
+fn begin_paged<E: BenchedEngine + CopyEngine>(
     alloc: Global,
     calibration: &Calibration,
     input: &RunInput,
@@ -109,7 +151,29 @@ fn begin<E: BenchedEngine + CopyEngine>(
     })
 }
 
-/// Keeps what was played where the next tick is a hundredth at which that is wanted.
+/// Begins the run of an input under this fault in place of its own: no tick of it is played yet.
+fn begin<E: BenchedEngine + CopyEngine>(
+    played: &mut Bench<E>,
+    calibration: &Calibration,
+    input: &RunInput,
+    fault: Option<&Fault>,
+)
+    requires playable { IsPlayable input.now }
+    requires valid { IsNoneOrValid (option_copied fault) }
+    requires bench { played.old.controller.kept.cal ≡ calibration.now }
+    ensures begun { (weighed : Bool) → HasPlayed weighed E.bench E.come_to
+        (run_with calibration.now (input_under (option_copied fault.entry) input.now)).run 0 played.new }
+    ensures sure { IsTrue played.new.controller.kept.memory.sure }
+{
+    let rules = calibration.rules();
+    let tally = Tally::new(rules.threshold, rules.torque);
+    let margins = MarginTally::new();
+    let image = input.image.as_slice();
+    bench_restart::<E>(&mut played.controller, calibration, image, fault);
+    (played.tally, played.margins) = (tally, margins);
+}
+
+/// Keeps what was played where the next tick is a hundredth at which that is wanted, but the first.
 fn keep<E: BenchedEngine + CopyEngine>(
     alloc: Global,
     wanted: &Wanted,
@@ -122,6 +186,9 @@ fn keep<E: BenchedEngine + CopyEngine>(
         AreCheckpoints weighed E.bench E.come_to r wanted.now tick kept.old.items →
         OnOk result (AreCheckpoints weighed E.bench E.come_to r wanted.now (tick + 1) kept.new.items) }
 {
+    if tick == 0 {
+        return keep_none(kept);
+    }
     if tick % CHECKPOINT_TICKS != 0 {
         return Ok(());
     }
@@ -137,7 +204,7 @@ fn keep_none<E: BenchedEngine + CopyEngine>(
     kept: &mut Vec<Option<Box<Checkpoint<E>>>>,
 ) -> Result<(), NoMemory>
     ensures { (weighed : Bool) (r : Run) (wanted : List Bool) (t : ℕ) → t % checkpoint_ticks ≡ 0 →
-        slice_index_or wanted (t / checkpoint_ticks) false ≡ false →
+        (1 ≤ t → slice_index_or wanted (t / checkpoint_ticks) false ≡ false) →
         AreCheckpoints weighed E.bench E.come_to r wanted t kept.old.items →
         OnOk result (AreCheckpoints weighed E.bench E.come_to r wanted (t + 1) kept.new.items) }
 {
@@ -194,6 +261,37 @@ fn go_on<E: BenchedEngine + CopyEngine>(
     }
 }
 
+/// Begins the run of an input of the group under this fault in place of its own: at its beginning, or at the
+/// last checkpoint that isn't after the onset.
+fn begin_from<E: BenchedEngine + CopyEngine, const WEIGHED: bool>(
+    shared: &Shared<E>,
+    played: &mut Bench<E>,
+    calibration: &Calibration,
+    input: &RunInput,
+    fault: &Fault,
+)
+    requires playable { IsPlayable input.now }
+    requires valid { IsNoneOrValid (Some fault.now) }
+    requires wanted { IsWantedFor shared.now.wanted (Some fault.now) }
+    requires within { fault.now.onset < length input.now.drive }
+    requires shared { IsSharedFor WEIGHED E.bench E.come_to calibration.now input.now shared.now }
+    requires bench { played.old.controller.kept.cal ≡ calibration.now }
+    ensures begun { HasPlayed WEIGHED E.bench E.come_to
+        (run_with calibration.now (input_under (Some fault.now) input.now)).run
+        (fault.now.onset / checkpoint_ticks * checkpoint_ticks) played.new }
+    ensures sure { IsTrue played.new.controller.kept.memory.sure }
+{
+    let index = fault.onset as usize / CHECKPOINT_TICKS;
+    if index == 0 {
+        begin(played, calibration, input, Some(fault));
+        return;
+    }
+    let Some(kept) = &shared.checkpoints[index] else {
+        unreachable!("it is wanted")
+    };
+    *played = go_on(&**kept, Some(fault.copy()));
+}
+
 /// Plays the next tick of the run of an input. NoMemory never comes over a sure memory.
 #[inline(always)]
 fn play_tick<E: BenchedEngine + CopyEngine, M: Guarded + Drop, const WEIGHED: bool>(
@@ -223,13 +321,15 @@ fn play_tick<E: BenchedEngine + CopyEngine, M: Guarded + Drop, const WEIGHED: bo
     Ok(())
 }
 
-/// Plays the run of an input of the group under this fault in place of its own: from the last checkpoint on
-/// that isn't after the onset. Where there is no fault, or one that begins after the run, nothing is played,
+/// Plays the run of an input of the group under this fault in place of its own: from the last hundredth tick
+/// on that isn't after the onset. If there is no fault, or one that begins after the run, nothing is played,
 /// and what is told is what the run without a fault tells. The ticks are counted in `steps`. It takes no
 /// memory and refuses nothing.
 #[inline(never)]
 pub(crate) fn play_from<E: BenchedEngine + CopyEngine, const WEIGHED: bool>(
     shared: &Shared<E>,
+    played: &mut Bench<E>,
+    calibration: &Calibration,
     input: &RunInput,
     fault: Option<&Fault>,
     steps: &mut Ticks,
@@ -237,16 +337,13 @@ pub(crate) fn play_from<E: BenchedEngine + CopyEngine, const WEIGHED: bool>(
     requires playable { IsPlayable input.now }
     requires valid { IsNoneOrValid (option_copied fault) }
     requires wanted { IsWantedFor shared.now.wanted (option_copied fault) }
-    requires shared { (cal : CalibrationParts)
-        × IsSharedFor WEIGHED E.bench E.come_to cal input.now shared.now }
-    ensures told { (cal : CalibrationParts) →
-        IsSharedFor WEIGHED E.bench E.come_to cal input.now shared.now →
-        IsToldOf WEIGHED E.bench
-        (run_with cal (input_under (option_copied fault.entry) input.now)).run result }
-    ensures counted { (cal : CalibrationParts) →
-        IsSharedFor WEIGHED E.bench E.come_to cal input.now shared.now →
-        steps.new ≡ count_with steps.old
-        (own_on E.bench cal (input_under (option_copied fault.entry) input.now)) }
+    requires shared { IsSharedFor WEIGHED E.bench E.come_to calibration.now input.now shared.now }
+    requires bench { played.old.controller.kept.cal ≡ calibration.now }
+    ensures told { IsToldOf WEIGHED E.bench
+        (run_with calibration.now (input_under (option_copied fault.entry) input.now)).run result }
+    ensures counted { steps.new ≡ count_with steps.old
+        (own_on E.bench calibration.now (input_under (option_copied fault.entry) input.now)) }
+    ensures bench { played.new.controller.kept.cal ≡ calibration.now }
 {
     // Called for its clause alone.
     count_none(steps);
@@ -256,13 +353,10 @@ pub(crate) fn play_from<E: BenchedEngine + CopyEngine, const WEIGHED: bool>(
     if fault.onset as usize >= input.drive.as_slice().len() {
         return shared.told;
     }
-    let index = fault.onset as usize / CHECKPOINT_TICKS;
-    let Some(kept) = &shared.checkpoints[index] else {
-        unreachable!("it is wanted")
-    };
-    let mut played = go_on(&**kept, Some(fault.copy()));
-    play_on::<E, WEIGHED>(&mut played, input, index * CHECKPOINT_TICKS, steps);
-    told_so_far(&played)
+    begin_from::<E, WEIGHED>(shared, played, calibration, input, fault);
+    let from = fault.onset as usize / CHECKPOINT_TICKS * CHECKPOINT_TICKS;
+    play_on::<E, WEIGHED>(played, input, from, steps);
+    told_so_far(played)
 }
 
 /// What is told of a run that was played to its end.
@@ -280,7 +374,7 @@ fn told_so_far<E: BenchedEngine + CopyEngine, M: Guarded + Drop>(played: &Played
 
 /// Plays the ticks of the run of an input from tick `from` on, to its end.
 fn play_on<E: BenchedEngine + CopyEngine, const WEIGHED: bool>(
-    played: &mut Played<E, FlatMemory>,
+    played: &mut Bench<E>,
     input: &RunInput,
     from: usize,
     steps: &mut Ticks,
@@ -303,7 +397,7 @@ fn play_on<E: BenchedEngine + CopyEngine, const WEIGHED: bool>(
 /// Plays the next tick of the run of an input over a sure memory.
 #[inline(always)]
 fn play_row<E: BenchedEngine + CopyEngine, const WEIGHED: bool>(
-    played: &mut Played<E, FlatMemory>,
+    played: &mut Bench<E>,
     input: &RunInput,
     tick: usize,
     steps: &mut Ticks,

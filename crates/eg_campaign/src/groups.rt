@@ -2,11 +2,13 @@
 ghost use Rattle.std.specs.Prelude.{◌≡◌, ◌<◌, ◌==◌, All, filter, map, length, replicate, slice_index_or, IfOk, OnOk, None};
 ghost use Rattle.eg_record.specs.declared.run_facts.RunFacts.{RunFacts};
 ghost use Rattle.eg_tick.specs.Counting.{AreCounted};
+ghost use Rattle.eg_campaign.specs.Checkpoints.{AreFor};
 ghost use Rattle.eg_campaign.specs.Plays.{IsPlayable};
 ghost use Rattle.eg_campaign.specs.Groups.{AreTold, group_of, leader_in, rows_shared, rows_of_group, rows_made, told_on, told_by, written_over};
 
 use crate::RunInput;
-use crate::checkpoints::{play_from, share};
+use crate::benches::Benches;
+use crate::checkpoints::{Bench, play_from, share};
 use crate::counting::count_none;
 use crate::leading::leaders;
 use crate::play::tell_one;
@@ -19,6 +21,13 @@ use eg_record::{MarginTally, RunFacts, Tally};
 use eg_tick::{BenchedEngine, Ticks};
 use eg_values::Calibration;
 use std::alloc::Global;
+
+/// The group that the run at an index leads, by the leader of each run of the campaign.
+#[derive(Clone, Copy)]
+struct Group<'a> {
+    leaders: &'a [usize],
+    index: usize,
+}
 
 /// Plays the runs of a campaign as `run_all` does, and tells of each its facts, the reactions in its spans,
 /// its trap, and where they are `WEIGHED` how near it came to a cut (docs/CONCEPT.md, "The report of a run",
@@ -38,11 +47,24 @@ pub fn told_all<const WEIGHED: bool>(
     count_none(steps);
     let leaders = leaders(alloc, inputs)?;
     let mut told = untold(alloc, calibration, inputs.len())?;
+    let mut benches = Benches::new(calibration);
     for i in 0..inputs.len() {
         if leaders[i] != i {
             continue;
         }
-        play_first::<WEIGHED>(alloc, calibration, inputs, &leaders, i, &mut told, steps)?;
+        let group = Group {
+            leaders: &leaders,
+            index: i,
+        };
+        play_first::<WEIGHED>(
+            alloc,
+            &mut benches,
+            calibration,
+            inputs,
+            group,
+            &mut told,
+            steps,
+        )?;
     }
     Ok(told)
 }
@@ -62,42 +84,45 @@ fn untold(alloc: Global, calibration: &Calibration, count: usize) -> Result<Vec<
     Ok(vec![in alloc; none; count]?)
 }
 
-/// Plays the group of the run at this index, which leads it, or that run alone where the group has no other.
-/// What each run of the group tells is written at its index.
+/// Plays this group, or the run that leads it alone where the group has no other. What each run of the group
+/// tells is written at its index.
 #[inline(never)]
 fn play_first<const WEIGHED: bool>(
     alloc: Global,
+    benches: &mut Benches,
     calibration: &Calibration,
     inputs: &[RunInput],
-    leaders: &[usize],
-    index: usize,
+    group: Group<'_>,
     told: &mut [RunFacts],
     steps: &mut Ticks,
 ) -> Result<(), NoMemory>
     requires playable { All IsPlayable inputs.now }
-    requires index { index < length inputs.now }
-    requires leaders { leaders.now ≡ map (leader_in inputs.now) inputs.now }
-    requires leads { slice_index_or leaders.now index 0 ≡ index }
+    requires index { group.index < length inputs.now }
+    requires leaders { group.leaders.now ≡ map (leader_in inputs.now) inputs.now }
+    requires leads { slice_index_or group.leaders.now group.index 0 ≡ group.index }
     requires places { length told.old ≡ length inputs.now }
-    ensures told { (x : RunInput) → x ≡ slice_index_or inputs.now index x → (before : RunInput → RunFacts) →
-        told.old ≡ map before inputs.now → OnOk result
+    requires benches { AreFor calibration.now benches.old }
+    ensures benches { OnOk result (AreFor calibration.now benches.new) }
+    ensures told { (x : RunInput) → x ≡ slice_index_or inputs.now group.entry.index x →
+        (before : RunInput → RunFacts) → told.old ≡ map before inputs.now → OnOk result
         (told.new ≡ map (written_over (told_by WEIGHED calibration.now) x before) inputs.now) }
-    ensures counted { (x : RunInput) → x ≡ slice_index_or inputs.now index x →
+    ensures counted { (x : RunInput) → x ≡ slice_index_or inputs.now group.entry.index x →
         AreCounted (rows_of_group calibration.now (group_of inputs.now x)) steps.old steps.new result }
 {
+    let Group { leaders, index } = group;
     let input = &inputs[index];
     if count_led(leaders, index) < 2 {
-        told[index] = tell_one::<WEIGHED>(calibration, input, steps);
+        told[index] = tell_one::<WEIGHED>(benches, calibration, input, steps);
         return Ok(());
     }
     match input.plan.engine {
         EngineKind::Gasoline => {
             play_group::<GasolineEngine, WEIGHED>(
                 alloc,
+                &mut benches.gasoline,
                 calibration,
                 inputs,
-                leaders,
-                index,
+                group,
                 told,
                 steps,
             )
@@ -105,10 +130,10 @@ fn play_first<const WEIGHED: bool>(
         EngineKind::Diesel => {
             play_group::<DieselEngine, WEIGHED>(
                 alloc,
+                &mut benches.diesel,
                 calibration,
                 inputs,
-                leaders,
-                index,
+                group,
                 told,
                 steps,
             )
@@ -123,30 +148,33 @@ fn count_led(leaders: &[usize], leader: usize) -> usize
     leaders.iter().filter(|other| **other == leader).count()
 }
 
-/// Plays the group of the run at this index, which leads it, on an engine of this type: the run without a
-/// fault once, and each run of the group from there. What each tells is written at its index.
+/// Plays this group on an engine of this type: the run without a fault once, and each run of the group from
+/// there. What each tells is written at its index.
 fn play_group<E: BenchedEngine + CopyEngine, const WEIGHED: bool>(
     alloc: Global,
+    played: &mut Bench<E>,
     calibration: &Calibration,
     inputs: &[RunInput],
-    leaders: &[usize],
-    index: usize,
+    group: Group<'_>,
     told: &mut [RunFacts],
     steps: &mut Ticks,
 ) -> Result<(), NoMemory>
     requires all { All IsPlayable inputs.now }
-    requires index { index < length inputs.now }
-    requires leaders { leaders.now ≡ map (leader_in inputs.now) inputs.now }
-    requires leads { slice_index_or leaders.now index 0 ≡ index }
+    requires index { group.index < length inputs.now }
+    requires leaders { group.leaders.now ≡ map (leader_in inputs.now) inputs.now }
+    requires leads { slice_index_or group.leaders.now group.index 0 ≡ group.index }
     requires places { length told.old ≡ length inputs.now }
-    ensures told { (x : RunInput) → x ≡ slice_index_or inputs.now index x → (before : RunInput → RunFacts) →
-        told.old ≡ map before inputs.now → OnOk result
+    requires bench { played.old.controller.kept.cal ≡ calibration.now }
+    ensures bench { OnOk result (played.new.controller.kept.cal ≡ calibration.now) }
+    ensures told { (x : RunInput) → x ≡ slice_index_or inputs.now group.entry.index x →
+        (before : RunInput → RunFacts) → told.old ≡ map before inputs.now → OnOk result
         (told.new ≡ map (written_over (told_on WEIGHED E.bench calibration.now) x before) inputs.now) }
-    ensures counted { (x : RunInput) → x ≡ slice_index_or inputs.now index x →
+    ensures counted { (x : RunInput) → x ≡ slice_index_or inputs.now group.entry.index x →
         AreCounted (rows_shared E.bench calibration.now inputs.now x) steps.old steps.new result }
 {
     // Called for its clause alone.
     count_none(steps);
+    let Group { leaders, index } = group;
     let input = &inputs[index];
     let wanted = wanted_in(inputs, leaders, index);
     let shared = share::<E, WEIGHED>(alloc, calibration, input, &wanted, steps)?;
@@ -156,7 +184,7 @@ fn play_group<E: BenchedEngine + CopyEngine, const WEIGHED: bool>(
         }
         let other = &inputs[i];
         let fault = other.plan.fault.as_ref();
-        let one = play_from::<E, WEIGHED>(&shared, other, fault, steps);
+        let one = play_from::<E, WEIGHED>(&shared, played, calibration, other, fault, steps);
         told[i] = one;
     }
     Ok(())

@@ -5,6 +5,7 @@
 #![tactic(auto)]
 
 mod alike;
+mod benches;
 mod checkpoints;
 mod counting;
 mod drives;

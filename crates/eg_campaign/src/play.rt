@@ -3,8 +3,11 @@ ghost use Rattle.std.specs.Prelude.{◌≡◌, All, map, IfOk};
 ghost use Rattle.eg_model.specs.Engines.{bench_of};
 ghost use Rattle.eg_campaign.specs.Plays.{IsPlayable, IsPlayed, run_with, report_with};
 ghost use Rattle.eg_campaign.specs.Groups.{AreTold, rows_made, told_with, facts_by};
+ghost use Rattle.eg_campaign.specs.Checkpoints.{AreFor};
 
 use crate::SharedItems;
+use crate::benches::Benches;
+use crate::checkpoints::play_alone;
 use crate::groups::told_all;
 use eg_answer::reaction;
 use eg_base::{Items, NoMemory};
@@ -13,7 +16,7 @@ use eg_num::Drive;
 use eg_plan::{EngineKind, RunPlan};
 use eg_plant::GasolineEngine;
 use eg_record::{Facts, RunFacts, Summary};
-use eg_tick::{BenchedEngine, Ticks, bench_facts};
+use eg_tick::Ticks;
 use eg_values::Calibration;
 use std::alloc::Global;
 
@@ -108,31 +111,23 @@ fn facts_of_all(alloc: Global, told: &[RunFacts]) -> Result<Vec<Facts>, NoMemory
 
 /// Plays one run of the engine that it names, and tells of it.
 pub(crate) fn tell_one<const WEIGHED: bool>(
+    benches: &mut Benches,
     calibration: &Calibration,
     input: &RunInput,
     steps: &mut Ticks,
 ) -> RunFacts
-    requires { IsPlayable input.now }
-    ensures { IsPlayed WEIGHED (bench_of input.now.plan.engine) (run_with calibration.now input.now).run
+    requires playable { IsPlayable input.now }
+    requires benches { AreFor calibration.now benches.old }
+    ensures told { IsPlayed WEIGHED (bench_of input.now.plan.engine) (run_with calibration.now input.now).run
         steps.old steps.new result }
+    ensures benches { AreFor calibration.now benches.new }
 {
     match input.plan.engine {
-        EngineKind::Gasoline => tell_on::<GasolineEngine, WEIGHED>(calibration, input, steps),
-        EngineKind::Diesel => tell_on::<DieselEngine, WEIGHED>(calibration, input, steps),
+        EngineKind::Gasoline => {
+            play_alone::<GasolineEngine, WEIGHED>(&mut benches.gasoline, calibration, input, steps)
+        }
+        EngineKind::Diesel => {
+            play_alone::<DieselEngine, WEIGHED>(&mut benches.diesel, calibration, input, steps)
+        }
     }
-}
-
-/// Plays one run with an engine of this type, whichever the run names, and tells of it.
-fn tell_on<E: BenchedEngine, const WEIGHED: bool>(
-    calibration: &Calibration,
-    input: &RunInput,
-    steps: &mut Ticks,
-) -> RunFacts
-    requires { IsPlayable input.now }
-    ensures { IsPlayed WEIGHED E.bench (run_with calibration.now input.now).run
-        steps.old steps.new result }
-{
-    let (image, drive) = (input.image.as_slice(), input.drive.as_slice());
-    let (plan, fault) = (&input.plan.slices, input.plan.fault.as_ref());
-    bench_facts::<E, WEIGHED>(calibration, image, plan, drive, fault, steps)
 }

@@ -6,7 +6,7 @@ ghost use Rattle.eg_campaign.specs.Plays.{IsPlayable};
 ghost use Rattle.eg_campaign.specs.Groups.{AreTold, input_under, inputs_under, rows_under, rows_of_group, told_on, facts_by};
 
 use crate::RunInput;
-use crate::checkpoints::{play_from, share};
+use crate::checkpoints::{bench, play_from, share};
 use crate::counting::count_none;
 use crate::wanted::wanted_under;
 use eg_base::NoMemory;
@@ -64,10 +64,18 @@ fn facts_on<E: BenchedEngine + CopyEngine>(
     // Called for its clause alone.
     count_none(steps);
     let wanted = wanted_under(faults);
+    let mut played = bench::<E>(calibration);
     let shared = share::<E, false>(alloc, calibration, input, &wanted, steps)?;
     let mut facts = Vec::new(alloc);
     for fault in faults {
-        let told = play_from::<E, false>(&shared, input, Some(fault), steps);
+        let told = play_from::<E, false>(
+            &shared,
+            &mut played,
+            calibration,
+            input,
+            Some(fault),
+            steps,
+        );
         facts.push(told.facts)?;
     }
     Ok(facts)

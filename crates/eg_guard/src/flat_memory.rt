@@ -39,6 +39,16 @@ impl FlatMemory {
         }
     }
 
+    /// Makes every word 0.
+    #[tactic(auto, using(crate::proofs::WordsLemmas::zeros_are_words))]
+    pub fn clear(&mut self)
+        ensures words { self.new ≡ replicate WORDS 0 }
+        ensures shown { ⟦<FlatMemory as Guarded>⟧.shows self.new
+            ≡ record { words = replicate WORDS 0; sure = true } }
+    {
+        self.words = [0; WORDS as usize];
+    }
+
     /// A memory of these words. Made of the words of a memory of another kind, it is a copy of that memory.
     pub fn of_words(words: [u16; WORDS as usize]) -> FlatMemory
         ensures words { result ≡ words }

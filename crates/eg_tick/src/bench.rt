@@ -39,6 +39,27 @@ pub fn bench_controller<E: BenchedEngine>(
     }
 }
 
+/// Begins a run on the bench as `bench_controller` does, in the place of a run of the same calibration
+/// (docs/CONCEPT.md, "A run, tick by tick").
+#[inline(never)]
+pub fn bench_restart<E: BenchedEngine>(
+    controller: &mut Controller<E, FlatMemory>,
+    calibration: &Calibration,
+    image: &[u16],
+    fault: Option<&Fault>,
+)
+    requires image { length image.now ≤ CODE_END }
+    requires fault { IsNoneOrValid (option_copied fault) }
+    requires calibration { controller.old.kept.cal ≡ calibration.now }
+    ensures at { (plan : List (List ℕ)) (drive : List DriveRow) → IsAt E.bench E.come_to
+        (run_by calibration.now image.now (option_copied fault.entry) plan drive) 0 controller.new }
+    ensures ticks { controller.new.kept.ticks ≡ 0 }
+    ensures sure { IsTrue controller.new.kept.memory.sure }
+{
+    let engine = E::at_rest(calibration.plant().copy());
+    controller.restart(image, Fault::copied(fault), engine);
+}
+
 /// Makes the next tick of a run on the bench, by the controller that has made all before it, and tells its
 /// row (docs/CONCEPT.md, "A run, tick by tick"). `tick` is its number in the run, the first being 0, and
 /// `drive` the drive row of that tick. It is counted in `steps`. It takes no memory and refuses nothing.

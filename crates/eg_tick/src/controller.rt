@@ -38,6 +38,7 @@ use std::marker::Model;
 
 mod branching;
 mod commanding;
+mod restarting;
 mod ticks;
 
 pub use ticks::Ticks;

@@ -19,12 +19,11 @@ mod run;
 mod span;
 mod weighing;
 
-pub use bench::{bench_begin, bench_controller, bench_row, bench_tick};
+pub use bench::{bench_begin, bench_controller, bench_restart, bench_row, bench_tick};
 pub use benched_engine::BenchedEngine;
 pub use commands::{Commands, rows_command_alike};
 pub use controller::{Controller, Ticks};
 pub use eg_host::{SlicePlan, Slices};
-pub use eg_turns::{show, signals, word};
 pub use facts::{bench_facts, run_facts};
 pub use run::{RunRecord, run_one};
 pub use weighing::weigh;

@@ -17,6 +17,6 @@ returns g c = λ weighed r wanted t whole played are.
     let was = c.args.played.now in
     let one : Played _ _ = record { controller = c.in_ok-controller.controller; tally = was.tally; margins = was.margins } in
     kept_more weighed bench come_to r wanted t c.args.kept.now.items c.push.new.self.items (Some c.in_ok-one.one) c.in_ok-push.ensures.items whole
-    (λ wants. subst (HasPlayed weighed bench come_to r t) (sym c.in_ok-one.ensures.ok) (subst (λ (q : Run). HasPlayed weighed bench come_to q t one) (without-is weighed bench come_to r (sym played.at.stands.fault ∙ c.requires))
+    (λ late wants. subst (HasPlayed weighed bench come_to r t) (sym c.in_ok-one.ensures.ok) (subst (λ (q : Run). HasPlayed weighed bench come_to q t one) (without-is weighed bench come_to r (sym played.at.stands.fault ∙ c.requires))
     (branched_at weighed bench come_to r t None was.controller.kept.memory was one c.requires tt c.in_ok-controller.ensures.kept refl
     c.in_ok-controller.ensures.engine refl refl played))) are

@@ -20,7 +20,7 @@ returns-in_err-shared-clause-counted g c = λ x at.
     let inputs = c.args.inputs.now in
     let input = c.index-inputs-index.result in
     subst (λ z. AreCounted (rows_shared bench cal inputs z) c.args.steps.now c.share.new.steps c.from_residual.result)
-    (one_item inputs c.args.index input x c.requires.index c.index-inputs-index.is at)
+    (one_item inputs c.args.group.index input x c.requires.index c.index-inputs-index.is at)
     (counted_err _ _ _ _ c.from_residual.ensures.0
     (stopped _ _ _ _ _ _ (begun c.args.steps.now (rows_shared bench cal inputs input) c.count_none.ensures) c.in_err-shared.ensures.counted))
 
@@ -31,10 +31,11 @@ loop-i-init g c =
     let inputs = c.args.inputs.now in
     let input = c.index-inputs-index.result in
     record {
+      cal = c.requires.bench;
       places = c.requires.places;
       told = λ x at before h. h;
       counts = λ x at. subst (λ z. Counted c.args.steps.now c.share.new.steps (flat_map (own_on bench cal) (filter (is_alike z) inputs)) (rows_shared bench cal inputs z))
-          (one_item inputs c.args.index input x c.requires.index c.index-inputs-index.is at)
+          (one_item inputs c.args.group.index input x c.requires.index c.index-inputs-index.is at)
           (more _ _ _ _ _ _ (begun c.args.steps.now (rows_shared bench cal inputs input) c.count_none.ensures) c.in_ok-shared.ensures.counted);
     }
 
@@ -43,14 +44,12 @@ play_from-one-requires-clause-shared g c =
     let cal = c.args.calibration.now in
     let inputs = c.args.inputs.now in
     let input = c.index-inputs-index.result in
-    let index = c.args.index in
-    let here = sym (leader-at inputs c.args.leaders.now c.requires.leaders index input 0 c.requires.index c.index-inputs-index.is) ∙ c.requires.leads in (
-      cal,
-      shared_of (not (g.row.WEIGHED == 0)) g.E.BenchedEngine.bench g.E.BenchedEngine.come_to c.in_ok-shared.shared cal input c.index-inputs-i.result
-          (led-here inputs c.args.leaders.now c.requires.leaders index input c.requires.index c.index-inputs-index.is here c.loop-i.i
-          c.index-inputs-i.result _ c.loop-i-test.true c.index-inputs-i.is c.if-leaders-i.false)
-          c.in_ok-shared.ensures.shared,
-    )
+    let index = c.args.group.index in
+    let here = sym (leader-at inputs c.args.group.leaders.now c.requires.leaders index input 0 c.requires.index c.index-inputs-index.is) ∙ c.requires.leads in
+    shared_of (not (g.row.WEIGHED == 0)) g.E.BenchedEngine.bench g.E.BenchedEngine.come_to c.in_ok-shared.shared cal input c.index-inputs-i.result
+    (led-here inputs c.args.group.leaders.now c.requires.leaders index input c.requires.index c.index-inputs-index.is here c.loop-i.i
+    c.index-inputs-i.result _ c.loop-i-test.true c.index-inputs-i.is c.if-leaders-i.false)
+    c.in_ok-shared.ensures.shared
 
 -- a run of another group is left out
 pub loop-i-preserved-then-leaders-i : goal.loop-i-preserved-then-leaders-i
@@ -58,9 +57,9 @@ loop-i-preserved-then-leaders-i g c =
     let bench = g.E.BenchedEngine.bench in
     let cal = c.args.calibration.now in
     let inputs = c.args.inputs.now in
-    let leaders = c.args.leaders.now in
+    let leaders = c.args.group.leaders.now in
     let are = c.requires.leaders in
-    let index = c.args.index in
+    let index = c.args.group.index in
     let i = c.loop-i.i in
     let one = item inputs i c.loop-i-test.true in
     let y = one.0 in
@@ -68,6 +67,7 @@ loop-i-preserved-then-leaders-i g c =
     led-elsewhere inputs leaders are index x c.requires.index at (sym
     (leader-at inputs leaders are index x 0 c.requires.index at) ∙ c.requires.leads) i y 0 c.loop-i-test.true one.1 c.if-leaders-i.true in
     record {
+      cal = c.loop-i.invariant.cal;
       places = c.loop-i.invariant.places;
       told = λ x at before h. left (written_over (told_on (not (g.row.WEIGHED == 0)) bench cal) x before) before inputs i y c.loop-i.told c.loop-i-test.true one.1
           (written-when (told_on (not (g.row.WEIGHED == 0)) bench cal) x before y (other x at)) (c.loop-i.invariant.told x at before h);
@@ -88,9 +88,9 @@ loop-i-preserved g c =
     let bench = g.E.BenchedEngine.bench in
     let cal = c.args.calibration.now in
     let inputs = c.args.inputs.now in
-    let leaders = c.args.leaders.now in
+    let leaders = c.args.group.leaders.now in
     let are = c.requires.leaders in
-    let index = c.args.index in
+    let index = c.args.group.index in
     let input = c.index-inputs-index.result in
     let y = c.index-inputs-i.result in
     let i = c.loop-i.i in
@@ -99,19 +99,18 @@ loop-i-preserved g c =
     let so : (x : RunInput) → x ≡ get_or inputs index x → is_alike x y ≡ true = λ x at.
     led-here inputs leaders are index x c.requires.index at (sym
     (leader-at inputs leaders are index x 0 c.requires.index at) ∙ c.requires.leads) i y 0 c.loop-i-test.true c.index-inputs-i.is c.if-leaders-i.false in
-    let is_shared = shared_of (not (g.row.WEIGHED == 0)) bench g.E.BenchedEngine.come_to c.in_ok-shared.shared cal input y
-    (so input c.index-inputs-index.is) c.in_ok-shared.ensures.shared in
     let under = c.as_ref-fault.ensures.value in
     record {
+      cal = c.play_from-one.ensures.bench;
       places = length-set c.loop-i.told i one ∙ c.loop-i.invariant.places;
       told = λ x at before h. wrote (written_over (told_on (not (g.row.WEIGHED == 0)) bench cal) x before) before inputs i y c.loop-i.told one
           c.loop-i-test.true c.index-inputs-i.is
-          ((c.play_from-one.ensures.told cal is_shared).is ∙ ap (λ (f : Option Fault). told_on (not (g.row.WEIGHED == 0)) bench cal
+          (c.play_from-one.ensures.told.is ∙ ap (λ (f : Option Fault). told_on (not (g.row.WEIGHED == 0)) bench cal
           (input_under f y)) under ∙ written-when (told_on (not (g.row.WEIGHED == 0)) bench cal) x before y (so x at))
           (c.loop-i.invariant.told x at before h);
       counts = λ x at. more _ _ _ _ _ _
           (said _ _ _ _ _ (rest-when own (is_alike x) inputs i y c.loop-i-test.true c.index-inputs-i.is (so x at)) (c.loop-i.invariant.counts x at))
-          (c.play_from-one.ensures.counted cal is_shared ∙ ap (λ (f : Option Fault). count_with c.loop-i.steps (own (input_under f y))) under);
+          (c.play_from-one.ensures.counted ∙ ap (λ (f : Option Fault). count_with c.loop-i.steps (own (input_under f y))) under);
     }
 
 pub returns : goal.returns
@@ -121,6 +120,7 @@ returns g c =
     let inputs = c.args.inputs.now in
     let i = c.loop-i.i in
     record {
+      bench = c.loop-i.invariant.cal;
       told = λ x at before h. all_written (written_over (told_on (not
           (g.row.WEIGHED == 0)) bench cal) x before) before inputs i c.loop-i.told c.loop-i-test.false (c.loop-i.invariant.told x at before h);
       counted = λ x at. ended _ _ _ (said _ _ _ _ _ (ap (λ l. flat_map (own_on bench cal) (filter (is_alike x) l))

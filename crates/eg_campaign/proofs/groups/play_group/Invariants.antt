@@ -12,6 +12,7 @@ abbrev pub invariant-loop-i : goal.invariant-loop-i
 invariant-loop-i g l =
     let bench = g.E.BenchedEngine.bench in
     record {
+      cal : l.played.controller.kept.cal ≡ l.calibration;
       places : length l.told ≡ length l.inputs;
       told : (x : RunInput) → x ≡ slice_index_or l.inputs l.index x → (before : RunInput → RunFacts) → l.fn.told ≡ map before l.inputs →
           l.told ≡ written_to (written_over (told_on (not (g.row.WEIGHED == 0)) bench l.calibration) x before) before l.inputs l.i;

@@ -8,6 +8,7 @@ use Rattle.eg_campaign.proofs.groups.told_all.Goals as goal
 
 pub loop-i-init : goal.loop-i-init
 loop-i-init g c = record {
+  benches = c.new-benches.ensures;
   goes = goes-begin (not (g.row.WEIGHED == 0)) c.args.calibration.now c.args.inputs.now _ c.in_ok-told.ensures.0 _ c.in_ok-told.ensures.1 (begun c.args.steps.now _ c.count_none.ensures);
 }
 
@@ -25,6 +26,7 @@ loop-i-preserved-then-index-i g c =
     let one = item inputs i c.loop-i-test.true in
     let leader = c.index.ensures ∙ leader-at inputs _ c.in_ok-leaders.ensures i one.0 _ c.loop-i-test.true one.1 in
     record {
+      benches = c.loop-i.invariant.benches;
       goes = goes-on (not (g.row.WEIGHED == 0)) c.args.calibration.now inputs i one.0 c.loop-i-test.true one.1 _ _ _
           (led-before inputs i one.0 c.loop-i-test.true one.1 (λ here. c.if-index-i.true (leader ∙ here))) c.loop-i.invariant.goes;
     }
@@ -52,6 +54,7 @@ loop-i-preserved g c =
     c.in_ok-play_first.ensures.told one.0 one.1 (told_after (not (g.row.WEIGHED == 0)) cal so_far.none inputs i) (c.deref_mut.ensures.value ∙ so_far.told_are) in
     let back = wrote_back c.loop-i.told.len c.play_first.new.told c.loop-i.told.items inputs w written (places (not (g.row.WEIGHED == 0)) cal inputs i _ _ _ so_far) c.loop-i.told.ok.0 in
     record {
+      benches = c.in_ok-play_first.ensures.benches;
       goes = subst (λ (l : List RunFacts). Goes (not (g.row.WEIGHED == 0)) cal inputs (i + 1) l c.args.steps.now c.play_first.new.steps) (sym back)
           (goes-new (not (g.row.WEIGHED == 0)) cal inputs i one.0 c.loop-i-test.true one.1 _ _ _ _ _
           (not_led inputs i one.0 c.loop-i-test.true one.1 (sym leader ∙ c.if-index-i.false)) so_far written (c.in_ok-play_first.ensures.counted one.0 one.1));

@@ -18,6 +18,7 @@ returns-in_err-shared-clause-counted g c = counted_err _ _ _ _ c.from_residual.e
 
 pub loop-fault-init : goal.loop-fault-init
 loop-fault-init g c = record {
+  cal = c.bench-played.ensures;
   facts = c.new-facts.ensures.items;
   counts = more _ _ _ _ _ _
       (begun c.args.steps.now (rows_under g.E.BenchedEngine.bench c.args.calibration.now c.args.input.now c.args.faults.now) c.count_none.ensures) c.in_ok-shared.ensures.counted;
@@ -29,28 +30,28 @@ play_from-told-requires-clause-valid g c =
     subst IsValid (sym c.fault-item.is) (c.requires.valid c.loop-fault.fault-index c.fault-item.result c.loop-fault-test.true)
 
 pub play_from-told-requires-clause-shared : goal.play_from-told-requires-clause-shared
-play_from-told-requires-clause-shared g c = (c.args.calibration.now, c.in_ok-shared.ensures.shared)
+play_from-told-requires-clause-shared g c = c.in_ok-shared.ensures.shared
 
 pub returns-in_err-push-clause-counted : goal.returns-in_err-push-clause-counted
 returns-in_err-push-clause-counted g c =
     let own = λ (fault : Fault). own_on g.E.BenchedEngine.bench c.args.calibration.now (input_under (Some fault) c.args.input.now) in
     counted_err _ _ _ _ c.from_residual-in_err-push.ensures.0
     (between _ _ _ _ (one_more own _ _ _ c.loop-fault-test.true c.fault-item.is _ _ _ _ c.loop-fault.invariant.counts
-    (c.play_from-told.ensures.counted c.args.calibration.now c.in_ok-shared.ensures.shared)))
+    c.play_from-told.ensures.counted))
 
 pub loop-fault-preserved : goal.loop-fault-preserved
 loop-fault-preserved g c =
     let bench = g.E.BenchedEngine.bench in
     let cal = c.args.calibration.now in
     let x = c.args.input.now in
-    let shared = c.in_ok-shared.ensures.shared in
     let tells = λ (fault : Fault). (told_on false bench cal (input_under (Some fault) x)).facts in
     record {
+      cal = c.play_from-told.ensures.bench;
       facts = c.in_ok-push.ensures.items
-          ∙ ap₂ (λ (all : List Facts) (one : RunFacts). all ++ one.facts ∷ []) c.loop-fault.invariant.facts (c.play_from-told.ensures.told cal shared).is
+          ∙ ap₂ (λ (all : List Facts) (one : RunFacts). all ++ one.facts ∷ []) c.loop-fault.invariant.facts c.play_from-told.ensures.told.is
           ∙ sym (map-more tells _ _ _ c.loop-fault-test.true c.fault-item.is);
       counts = one_more (λ (fault : Fault). own_on bench cal (input_under (Some fault) x)) _ _ _ c.loop-fault-test.true c.fault-item.is _ _ _ _
-          c.loop-fault.invariant.counts (c.play_from-told.ensures.counted cal shared);
+          c.loop-fault.invariant.counts c.play_from-told.ensures.counted;
     }
 
 pub returns : goal.returns

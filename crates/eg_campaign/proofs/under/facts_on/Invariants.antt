@@ -9,6 +9,7 @@ abbrev pub invariant-loop-fault : goal.invariant-loop-fault
 invariant-loop-fault g l =
     let bench = g.E.BenchedEngine.bench in
     record {
+      cal : l.played.controller.kept.cal ≡ l.calibration;
       facts : l.facts.items ≡ map (λ fault. (told_on false bench l.calibration (input_under (Some fault) l.input)).facts) (take l.fault-index l.faults);
       counts : Counted l.fn.steps l.steps (flat_map (λ fault. own_on bench l.calibration (input_under (Some fault) l.input)) (drop l.fault-index l.faults))
           (rows_under bench l.calibration l.input l.faults);
