@@ -17,7 +17,7 @@ use Rattle.eg_desk.specs.Check.{check_file}
 use Rattle.eg_desk.specs.Ends.{answers_file, read_alone}
 use Rattle.eg_play.specs.declared.telling.Telling.{Telling}
 use Rattle.eg_play.specs.Ends.{RunsCome, Tells}
-use Rattle.eg_readings.specs.declared.answered.PartnerAnswer.{PartnerAnswer}
+use Rattle.eg_input.specs.declared.answered.PartnerAnswer.{PartnerAnswer}
 use Rattle.eg_stream.specs.Coupled.{CoupledUnit, unit_of}
 use Rattle.eg_stream.specs.Couplings.{Coupling, CouplingEnds, coupling, couple_work}
 use Rattle.eg_stream.specs.Headline.{KeepsCoupledHeadline}

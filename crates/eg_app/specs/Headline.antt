@@ -23,7 +23,7 @@ use Rattle.eg_play.specs.InWords.{TellsInWords}
 use Rattle.eg_play.specs.Ends.{TellsWithinLimits, run_named}
 use Rattle.eg_soak.specs.Soak.{drawn_runs, soak_of}
 use Rattle.eg_soak.specs.Texts.{soak_text}
-use Rattle.eg_readings.specs.declared.answered.PartnerAnswer.{PartnerAnswer}
+use Rattle.eg_input.specs.declared.answered.PartnerAnswer.{PartnerAnswer}
 use Rattle.eg_stream.specs.Coupled.{unit_of}
 use Rattle.eg_stream.specs.Couplings.{couple_work}
 use Rattle.eg_stream.specs.Headline.{KeepsCoupledHeadline}

@@ -10,4 +10,8 @@ pub mod WordLemmas
 pub mod WritesLemmas
 pub mod ImageLaws
 pub mod DecimalLemmas
+pub mod NumbersLemmas
+pub mod AnswerLemmas
+pub mod LengthLaws
 mod Worked
+mod WorkedLines

@@ -6,4 +6,6 @@ pub mod DriveTrace
 pub mod Unread
 pub mod Plain
 pub mod Images
+pub mod Recording
+pub mod Answering
 pub use Rattle.eg_num.specs.Drive

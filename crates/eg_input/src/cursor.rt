@@ -9,7 +9,7 @@ use crate::field::{number_of, truth_of};
 /// The number before the first of the bytes `ending`, which is no digit, and what stands behind that byte.
 /// None where there is no such byte, or no number of at most `most` before it.
 #[inline(always)]
-pub fn first_number(text: &[u8], ending: u8, most: u16) -> Option<(u16, &[u8])>
+pub(crate) fn first_number(text: &[u8], ending: u8, most: u16) -> Option<(u16, &[u8])>
     requires { is_ascii_digit ending ≡ false }
     ensures said { found_now result ≡ first_said ending (number_of most) text.now }
     ensures begins { IfSome result (λ found. BeginsWithNumber most ending text.now found.0 found.1.now) }
@@ -81,7 +81,7 @@ fn first_place(text: &[u8], ending: u8) -> Option<usize>
 /// What the digit before the first of the bytes `ending` says to be true or false, and what stands behind
 /// that byte. None where there is no such byte, or anything but 0 or 1 before it.
 #[inline(always)]
-pub fn first_truth(text: &[u8], ending: u8) -> Option<(bool, &[u8])>
+pub(crate) fn first_truth(text: &[u8], ending: u8) -> Option<(bool, &[u8])>
     requires { is_ascii_digit ending ≡ false }
     ensures said { found_now result ≡ first_said ending truth_of text.now }
     ensures begins { IfSome result (λ found. BeginsWithTruth ending text.now found.0 found.1.now) }

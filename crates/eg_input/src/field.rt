@@ -10,7 +10,7 @@ use csv::ByteRecord;
 /// The number that a field of one to five decimal digits writes, where it is at most `most`.
 #[inline(always)]
 #[tactic(auto, unfolding(crate::specs::Fields::number_of, crate::specs::Fields::decimal_value))]
-pub fn number_of(field: &[u8], most: u16) -> Option<u16>
+pub(crate) fn number_of(field: &[u8], most: u16) -> Option<u16>
     ensures { result ≡ number_of most field.now }
 {
     if field.is_empty() || field.len() > 5 {

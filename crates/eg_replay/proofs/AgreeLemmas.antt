@@ -22,7 +22,7 @@ use Rattle.eg_model.specs.Rows.{signal_list, row_of, rows_of}
 use Rattle.eg_agree.specs.Standing.{mirror_found, counter_after}
 use Rattle.eg_agree.specs.Ticking.{found_in_level2}
 use Rattle.eg_turns.specs.Board.{by_tracks}
-use Rattle.eg_readings.specs.declared.recorded.Recorded.{Recorded}
+use Rattle.eg_input.specs.declared.recorded.Recorded.{Recorded}
 use Rattle.eg_replay.specs.Replay.{effects_of, entry_of, alone, replayed, given_readings, counters_after, told_at, told_of}
 use Rattle.eg_replay.specs.Agreement.{recorded_at, RunsFreely, SpansAgree, shown_by, RowsShowTheSame}
 use Rattle.eg_replay.proofs.TellLemmas.{and-false}

@@ -28,7 +28,7 @@ use Rattle.eg_turns.specs.Board.{by_tracks}
 use Rattle.eg_turns.proofs.FrameLemmas.{level2_leaves, set-stays}
 use Rattle.eg_turns.specs.Midway.{Work, signals_in}
 use Rattle.eg_model.specs.Level1.{last_world}
-use Rattle.eg_readings.specs.declared.recorded.Recorded.{Recorded}
+use Rattle.eg_input.specs.declared.recorded.Recorded.{Recorded}
 use Rattle.eg_replay.specs.Replay.{tracks_of, effects_of, entry_of, tick_of, alone, replayed, given_readings, counters_after, told_at, told_after}
 use Rattle.eg_replay.specs.declared.tick_signals.TickSignals.{TickSignals}
 use Rattle.eg_replay.specs.declared.tick_signals.Counters.{Counters}

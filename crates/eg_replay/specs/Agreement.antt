@@ -14,7 +14,7 @@ use Rattle.eg_model.specs.Seeing.{Runs, IsUndisturbed}
 use Rattle.eg_model.specs.Spans.{span_so_far, span_kind}
 use Rattle.eg_model.specs.Engines.{BenchEngine}
 use Rattle.eg_model.specs.Bench.{Run, drive_at, moments_to}
-use Rattle.eg_readings.specs.declared.recorded.Recorded.{Recorded}
+use Rattle.eg_input.specs.declared.recorded.Recorded.{Recorded}
 use Rattle.eg_num.specs.declared.watches.Watches.{Watches}
 use Rattle.eg_record.specs.declared.row.Row.{Row}
 use Rattle.eg_model.specs.Rows.{rows_of}

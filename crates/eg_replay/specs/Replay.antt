@@ -7,7 +7,7 @@ use Rattle.eg_sensor.specs.Brake.{is_pressed, gated}
 use Rattle.eg_sensor.specs.declared.readings.Readings.{Readings}
 use Rattle.eg_values.specs.Calibration.{CalibrationParts}
 use Rattle.eg_fault.specs.Effects.{Effects, no_effects}
-use Rattle.eg_readings.specs.declared.recorded.Recorded.{Recorded}
+use Rattle.eg_input.specs.declared.recorded.Recorded.{Recorded}
 use Rattle.eg_model.specs.History.{Setting, Entry, Tick, Drive, Moment}
 use Rattle.eg_model.specs.Moments.{moments_in}
 use Rattle.eg_model.specs.Detection.{pedal_bit, plate_bit, load_bit, speed_bit, torque_bit}

@@ -8,7 +8,7 @@ use Rattle.eg_level2.specs.Words.{Words, words_of, AreMirrored, AreWithin}
 use Rattle.eg_level2.specs.declared.lookup.Prepared.{Prepared}
 use Rattle.eg_level2.specs.Inputs.{Level2Parts, IsPrepared, readings_of, asked_of}
 use Rattle.eg_level2.specs.Ticks.{Doing, after_modules}
-use Rattle.eg_readings.specs.declared.recorded.Recorded.{Recorded}
+use Rattle.eg_input.specs.declared.recorded.Recorded.{Recorded}
 use Rattle.eg_agree.specs.Standing.{KeepsWords}
 use Rattle.eg_replay.specs.declared.tick_signals.Counters.{Counters}
 use Rattle.eg_replay.specs.Replay.{alone, replayed}

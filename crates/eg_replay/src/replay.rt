@@ -3,13 +3,13 @@ ghost use Rattle.std.specs.Prelude.{◌≡◌, ◌∷◌, [], List};
 ghost use Rattle.eg_level2.specs.Words.{words_of, start, AreMirrored, AreWithin};
 ghost use Rattle.eg_replay.specs.Replay.{told_after, given_readings};
 ghost use Rattle.eg_replay.specs.Running.{IsReplayOf, counters_kept};
-ghost use Rattle.eg_readings.specs.declared.recorded.Recorded.{Recorded as IsRecorded};
+ghost use Rattle.eg_input.specs.declared.recorded.Recorded.{Recorded as IsRecorded};
 
 use crate::modules::{run_modules, show_readings};
 use crate::{Counters, TickSignals};
 use eg_guard::FlatMemory;
+use eg_input::Recorded;
 use eg_level2::{Level2, Lookup, Prepared};
-use eg_readings::Recorded;
 use eg_sensor::{Readings, gate, pressed};
 use eg_turns::{signals, word};
 use eg_values::Calibration;

@@ -8,10 +8,10 @@ use Rattle.eg_outcome.specs.declared.outcome.Outcome.{Outcome}
 use Rattle.eg_outcome.specs.declared.outcome.Outcome.TheVariants.{Refused}
 use Rattle.eg_outcome.specs.declared.outcome.Refusal.TheVariants.{Check}
 use Rattle.eg_input.specs.declared.fault.TraceFault.TheVariants.{Header}
-use Rattle.eg_readings.specs.declared.recorded.TheConstants.{MOST_BYTES}
-use Rattle.eg_readings.specs.declared.columns.Columns.{Columns}
-use Rattle.eg_readings.specs.Recording.{columns_of}
-use Rattle.eg_readings.proofs.LengthLaws.{columns_of-seen}
+use Rattle.eg_input.specs.declared.recorded.TheConstants.{MOST_BYTES}
+use Rattle.eg_input.specs.declared.columns.Columns.{Columns}
+use Rattle.eg_input.specs.Recording.{columns_of}
+use Rattle.eg_input.proofs.LengthLaws.{columns_of-seen}
 use Rattle.eg_stream.specs.Reading.{RecordingBegins, columns_or_header, columns_or_end}
 
 -- what is read of the first line gives what the line gives

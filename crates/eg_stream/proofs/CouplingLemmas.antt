@@ -10,7 +10,7 @@ use Rattle.eg_fault.specs.Faults.{IsNoneOrValid}
 use Rattle.eg_plant.specs.Foreign.{Foreign}
 use Rattle.eg_values.specs.Calibration.{IsAccepted}
 use Rattle.eg_record.specs.declared.row.Row.{Row}
-use Rattle.eg_readings.specs.declared.answered.PartnerAnswer.{PartnerAnswer}
+use Rattle.eg_input.specs.declared.answered.PartnerAnswer.{PartnerAnswer}
 use Rattle.eg_model.specs.Spans.{moments, next}
 use Rattle.eg_model.specs.Rows.{row_of, rows_of}
 use Rattle.eg_tick.specs.Commanding.{commands_next}

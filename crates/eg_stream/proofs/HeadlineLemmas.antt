@@ -11,7 +11,7 @@ use Rattle.eg_plant.specs.Engine.{Shown}
 use Rattle.eg_record.specs.declared.row.Row.{Row}
 use Rattle.eg_record.specs.Rows.{AreRows}
 use Rattle.eg_record.specs.Spans.{EachDriveSpan, EachTestSpan}
-use Rattle.eg_readings.specs.declared.answered.PartnerAnswer.{PartnerAnswer}
+use Rattle.eg_input.specs.declared.answered.PartnerAnswer.{PartnerAnswer}
 use Rattle.eg_model.specs.History.{Setting, Moment}
 use Rattle.eg_model.specs.Spans.{moments}
 use Rattle.eg_model.specs.PowerCycles.{SpansBeginInTurn}

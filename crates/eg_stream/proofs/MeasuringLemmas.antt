@@ -17,9 +17,9 @@ use Rattle.eg_outcome.specs.declared.outcome.Outcome.TheVariants as outcome
 use Rattle.eg_outcome.specs.Outcomes.{PutsNothing}
 use Rattle.eg_outcome.specs.declared.outcome.Refusal.{Refusal}
 use Rattle.eg_outcome.specs.declared.outcome.Refusal.TheVariants as refusal
-use Rattle.eg_readings.specs.declared.columns.Columns.{Columns}
-use Rattle.eg_readings.specs.declared.recorded.Recorded.{Recorded}
-use Rattle.eg_readings.specs.Recording.{columns_of, recorded_of}
+use Rattle.eg_input.specs.declared.columns.Columns.{Columns}
+use Rattle.eg_input.specs.declared.recorded.Recorded.{Recorded}
+use Rattle.eg_input.specs.Recording.{columns_of, recorded_of}
 use Rattle.eg_replay.specs.declared.tick_signals.TickSignals.{TickSignals}
 use Rattle.eg_replay.specs.declared.findings.Findings.{Findings}
 use Rattle.eg_replay.specs.Findings.{findings_of}

@@ -7,10 +7,10 @@ use Rattle.eg_outcome.specs.Lines.{Line, Come, ReadsWell, LineComes}
 use Rattle.eg_outcome.specs.declared.outcome.Outcome.{Outcome}
 use Rattle.eg_outcome.specs.declared.outcome.Outcome.TheVariants.{Refused}
 use Rattle.eg_outcome.proofs.ComingLemmas.{seen_line}
-use Rattle.eg_readings.specs.Answering.{answer_of}
-use Rattle.eg_readings.specs.declared.answered.PartnerAnswer.{PartnerAnswer}
-use Rattle.eg_readings.specs.declared.answered.TheConstants.{MOST_ANSWER_BYTES}
-use Rattle.eg_readings.proofs.LengthLaws.{answer_of-seen}
+use Rattle.eg_input.specs.Answering.{answer_of}
+use Rattle.eg_input.specs.declared.answered.PartnerAnswer.{PartnerAnswer}
+use Rattle.eg_input.specs.declared.answered.TheConstants.{MOST_ANSWER_BYTES}
+use Rattle.eg_input.proofs.LengthLaws.{answer_of-seen}
 use Rattle.eg_tick.specs.Commanding.{commanded_at}
 use Rattle.eg_stream.specs.Coupled.{CoupledUnit, Objection, NoAnswer, LoadBelowTorque, TorqueWhileOff, entries_by, covers, lawful, lawful_if_any, taken}
 use Rattle.eg_stream.specs.Couplings.{refusal_of}

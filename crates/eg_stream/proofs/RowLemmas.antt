@@ -1,7 +1,7 @@
 -- The rows of a coupled run, one for each answer, and the text that is made of them.
 use Rattle.std.proofs.Common.{◌∙◌, sym, ap, refl, suc, List, [], ◌∷◌, ◌++◌, append_assoc, append-nil, ℕ, length}
 use Rattle.eg_record.specs.declared.row.Row.{Row}
-use Rattle.eg_readings.specs.declared.answered.PartnerAnswer.{PartnerAnswer}
+use Rattle.eg_input.specs.declared.answered.PartnerAnswer.{PartnerAnswer}
 use Rattle.eg_model.specs.Moments.{moment_in}
 use Rattle.eg_model.specs.Spans.{moment_at, moments, next, next_after}
 use Rattle.eg_model.specs.Rows.{row_of, rows_of}

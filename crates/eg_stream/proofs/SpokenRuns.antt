@@ -8,7 +8,7 @@ use Rattle.eg_num.specs.Drive.{DriveRow, IsDrive}
 use Rattle.eg_values.specs.Calibration.{IsAccepted}
 use Rattle.eg_plant.specs.Engine.{Shown, KeepsLaws}
 use Rattle.eg_fault.specs.Faults.{effects}
-use Rattle.eg_readings.specs.declared.answered.PartnerAnswer.{PartnerAnswer}
+use Rattle.eg_input.specs.declared.answered.PartnerAnswer.{PartnerAnswer}
 use Rattle.eg_model.specs.History.{Setting, drives, Moment}
 use Rattle.eg_model.specs.Paths.{both_conduct}
 use Rattle.eg_model.specs.Spans.{kind_at, before_at, next_after, moments}

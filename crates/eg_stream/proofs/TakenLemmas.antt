@@ -5,9 +5,9 @@ use Rattle.std.specs.Prelude.{◌==◌, not, ◌&&◌, ◌||◌, Result, Ok, Err
 use Rattle.std.proofs.lemmas.Bool.Decides.{nat_tests}
 use Rattle.eg_num.specs.Drive.{DriveRow, IsDrive}
 use Rattle.eg_plant.specs.Engine.{Shown, KeepsLaws}
-use Rattle.eg_readings.specs.Answering.{answer_of}
-use Rattle.eg_readings.specs.declared.answered.PartnerAnswer.{PartnerAnswer}
-use Rattle.eg_readings.proofs.AnswerLemmas.{answer_of-limits}
+use Rattle.eg_input.specs.Answering.{answer_of}
+use Rattle.eg_input.specs.declared.answered.PartnerAnswer.{PartnerAnswer}
+use Rattle.eg_input.proofs.AnswerLemmas.{answer_of-limits}
 use Rattle.eg_fault.specs.Faults.{effects}
 use Rattle.eg_model.specs.History.{Setting, Entry, Drive, Test, drives, Moment}
 use Rattle.eg_model.specs.Paths.{both_conduct}

@@ -5,7 +5,7 @@ use Rattle.eg_fault.specs.declared.class.Fault.{Fault}
 use Rattle.eg_plant.specs.Engine.{Shown}
 use Rattle.eg_plant.specs.Foreign.{Foreign, StepsAsTold, powered}
 use Rattle.eg_values.specs.Calibration.{CalibrationParts}
-use Rattle.eg_readings.specs.declared.answered.PartnerAnswer.{PartnerAnswer}
+use Rattle.eg_input.specs.declared.answered.PartnerAnswer.{PartnerAnswer}
 use Rattle.eg_record.specs.declared.row.Row.{Row}
 use Rattle.eg_model.specs.History.{Setting, Entry}
 use Rattle.eg_model.specs.Spans.{next}

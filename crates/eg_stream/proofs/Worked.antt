@@ -13,7 +13,7 @@ use Rattle.eg_model.specs.Spans.{next}
 use Rattle.eg_tick.specs.Commanding.{commands_after, commanded_at, commands_next}
 use Rattle.eg_stream.specs.Coupled.{CoupledUnit, LoadBelowTorque, TorqueWhileOff, entry_by, entries_by, covers, lawful, lawful_if_any, taken}
 use Rattle.eg_stream.specs.Texts.{held_text, commands_text, first_line, coupled_line, answer_line}
-use Rattle.eg_readings.specs.declared.answered.PartnerAnswer.{PartnerAnswer}
+use Rattle.eg_input.specs.declared.answered.PartnerAnswer.{PartnerAnswer}
 
 -- every definition of what is told
 unfoldable telling : ℕ

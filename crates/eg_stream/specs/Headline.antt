@@ -6,7 +6,7 @@ use Rattle.eg_answer.specs.Times.{reaction_of, test_ticks_of}
 use Rattle.eg_values.specs.Excess.{BoundsLapses, ticks_to_confirm, longest_stretch}
 use Rattle.eg_fault.specs.Faults.{effects, IsListed}
 use Rattle.eg_fault.specs.declared.paths.TheConstants.{PATH_1, PATH_2}
-use Rattle.eg_readings.specs.declared.answered.PartnerAnswer.{PartnerAnswer}
+use Rattle.eg_input.specs.declared.answered.PartnerAnswer.{PartnerAnswer}
 use Rattle.eg_record.specs.declared.row.Row.{Row}
 use Rattle.eg_record.specs.Rows.{AreRows}
 use Rattle.eg_record.specs.Spans.{EachDriveSpan, EachTestSpan}

@@ -11,9 +11,9 @@ use Rattle.eg_outcome.specs.Lines.{Line}
 use Rattle.eg_outcome.specs.declared.outcome.Outcome.{Outcome}
 use Rattle.eg_outcome.specs.declared.outcome.Refusal.{Refusal}
 use Rattle.eg_outcome.specs.declared.outcome.Refusal.TheVariants as refusal
-use Rattle.eg_readings.specs.declared.columns.Columns.{Columns}
-use Rattle.eg_readings.specs.declared.recorded.Recorded.{Recorded}
-use Rattle.eg_readings.specs.Recording.{columns_of, recorded_of}
+use Rattle.eg_input.specs.declared.columns.Columns.{Columns}
+use Rattle.eg_input.specs.declared.recorded.Recorded.{Recorded}
+use Rattle.eg_input.specs.Recording.{columns_of, recorded_of}
 use Rattle.eg_replay.specs.Findings.{findings_of}
 use Rattle.eg_replay.specs.Texts.{signals_text, replay_text}
 use Rattle.eg_replay.specs.Replay.{replayed, told_of}

@@ -6,7 +6,7 @@ use Rattle.eg_outcome.specs.Changes.{Change}
 use Rattle.eg_outcome.specs.Lines.{Line, Come, IsAtEnd, ReadsWell, NoLineComes}
 use Rattle.eg_outcome.specs.declared.outcome.Outcome.{Outcome}
 use Rattle.eg_outcome.specs.declared.outcome.Outcome.TheVariants as outcome
-use Rattle.eg_readings.specs.declared.answered.PartnerAnswer.{PartnerAnswer}
+use Rattle.eg_input.specs.declared.answered.PartnerAnswer.{PartnerAnswer}
 use Rattle.eg_tick.specs.Kept.{ControllerParts}
 use Rattle.eg_tick.specs.Stands.{Stands}
 use Rattle.eg_stream.specs.Coupled.{CoupledUnit, Objection, entries_by, taken}

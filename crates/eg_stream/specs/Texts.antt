@@ -2,7 +2,7 @@
 -- commands, and for each answer the record's row with what the next tick commands.
 use Rattle.std.specs.Prelude.{◌≡◌, ℕ, List, [], ◌∷◌, ◌++◌, length, replicate, codes, decimal, Option, Some, None}
 use Rattle.std.specs.List.{concat}
-use Rattle.eg_readings.specs.declared.answered.PartnerAnswer.{PartnerAnswer}
+use Rattle.eg_input.specs.declared.answered.PartnerAnswer.{PartnerAnswer}
 use Rattle.eg_record.specs.declared.row.Row.{Row}
 use Rattle.eg_record.specs.Texts.{digit, numbers_text, row_columns}
 use Rattle.eg_model.specs.Spans.{next}

@@ -7,7 +7,7 @@ ghost use Rattle.eg_stream.specs.Coupled.{CoupledUnit, AreTaken};
 ghost use Rattle.eg_stream.specs.Headline.{KeepsCoupledHeadline, RowsComeInTurn};
 ghost use Rattle.eg_stream.specs.Texts.{TextTellsRows};
 ghost use Rattle.eg_stream.specs.Used.{CommandsAreUsed};
-ghost use Rattle.eg_readings.specs.declared.answered.PartnerAnswer.{PartnerAnswer as SomeAnswer};
+ghost use Rattle.eg_input.specs.declared.answered.PartnerAnswer.{PartnerAnswer as SomeAnswer};
 
 /// Does nothing when it runs. Its clauses are the headline of coupled runs (docs/CONCEPT.md, "`couple`"): by
 /// each accepted calibration, under each valid fault or none, whatever lines a partner answers that are

@@ -4,19 +4,18 @@ ghost use Rattle.eg_outcome.specs.Changes.{change_of};
 ghost use Rattle.eg_outcome.specs.Lines.{LineComes};
 ghost use Rattle.eg_outcome.specs.declared.outcome.Outcome.TheVariants.{Refused};
 ghost use Rattle.eg_outcome.specs.declared.outcome.Refusal.TheVariants as refusal;
-ghost use Rattle.eg_readings.specs.declared.answered.PartnerAnswer.{PartnerAnswer as SomeAnswer};
-ghost use Rattle.eg_readings.specs.declared.answered.TheConstants.{MOST_ANSWER_BYTES};
+ghost use Rattle.eg_input.specs.declared.answered.PartnerAnswer.{PartnerAnswer as SomeAnswer};
+ghost use Rattle.eg_input.specs.declared.answered.TheConstants.{MOST_ANSWER_BYTES};
 ghost use Rattle.eg_model.specs.History.{Setting, Entry};
 ghost use Rattle.eg_tick.specs.Commanding.{commanded_at, commands_next};
 ghost use Rattle.eg_stream.specs.Coupled.{CoupledUnit, entries_by, covers, taken};
 ghost use Rattle.eg_stream.specs.Running.{AnswerComes, outcome_of};
 
-use eg_input::TraceFault;
+use eg_input::{PartnerAnswer, TraceFault, answer_of};
 use eg_lines::Lines;
 use eg_num::Drive;
 use eg_outcome::{AnswerFault, Outcome, Refusal, next_line};
 use eg_plant::PartnerStep;
-use eg_readings::{PartnerAnswer, answer_of};
 use eg_tick::Commands;
 use eg_torque::actual;
 use std::alloc::Global;
@@ -69,7 +68,7 @@ impl Partner {
             self.new.line.items result }
         ensures kt { self.new.kt ≡ self.old.kt }
     {
-        next_line(eg_readings::MOST_ANSWER_BYTES + 1, lines, &mut self.line)
+        next_line(eg_input::MOST_ANSWER_BYTES + 1, lines, &mut self.line)
     }
 
     /// The answer that the line gives which was read, or how the call ends with it.

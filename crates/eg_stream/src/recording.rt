@@ -5,10 +5,9 @@ ghost use Rattle.eg_outcome.specs.declared.outcome.Outcome.TheVariants.{Refused}
 ghost use Rattle.eg_outcome.specs.declared.outcome.Refusal.TheVariants.{Check};
 ghost use Rattle.eg_stream.specs.Reading.{columns_or_end, columns_or_header, RecordingBegins, RecordingGoesOn};
 
-use eg_input::TraceFault;
+use eg_input::{Columns, MOST_BYTES, Recorded, TraceFault, columns_of, recorded_of};
 use eg_lines::Lines;
 use eg_outcome::{Outcome, Refusal, next_line};
-use eg_readings::{Columns, MOST_BYTES, Recorded, columns_of, recorded_of};
 use std::alloc::Global;
 
 /// The lines of a recording (docs/FORMATS.md, "Recorded readings"): its columns, which the first line names,

@@ -4,7 +4,7 @@ ghost use Rattle.eg_guard.specs.declared.regions.TheConstants.{DATA as CODE_END}
 ghost use Rattle.eg_fault.specs.Faults.{IsNoneOrValid};
 ghost use Rattle.eg_model.specs.Spans.{next};
 ghost use Rattle.eg_model.specs.Rows.{row_of};
-ghost use Rattle.eg_readings.specs.declared.answered.PartnerAnswer.{PartnerAnswer as SomeAnswer};
+ghost use Rattle.eg_input.specs.declared.answered.PartnerAnswer.{PartnerAnswer as SomeAnswer};
 ghost use Rattle.eg_tick.specs.Commanding.{commands_next};
 ghost use Rattle.eg_tick.specs.Weights.{weight_of};
 ghost use Rattle.eg_stream.specs.Coupled.{CoupledUnit, unit_of, entry_by, entries_by, lawful, taken};
@@ -14,8 +14,8 @@ use eg_campaign::RunInput;
 use eg_fault::Fault;
 use eg_guard::FlatMemory;
 use eg_host::SlicePlan;
+use eg_input::PartnerAnswer;
 use eg_plant::ForeignEngine;
-use eg_readings::PartnerAnswer;
 use eg_record::Row;
 use eg_tick::{Commands, Controller, Ticks};
 use eg_values::Calibration;

@@ -1,6 +1,6 @@
 use Rattle.std.proofs.Common.{◌≡◌, ◌∙◌, ℕ, ◌+◌, ◌<◌, ◌∷◌, [], refl, sym, subst, Option, Ok, arith}
-use Rattle.eg_readings.specs.declared.answered.PartnerAnswer.{PartnerAnswer}
-use Rattle.eg_readings.specs.declared.answered.TheConstants.{MOST_ANSWER_BYTES}
+use Rattle.eg_input.specs.declared.answered.PartnerAnswer.{PartnerAnswer}
+use Rattle.eg_input.specs.declared.answered.TheConstants.{MOST_ANSWER_BYTES}
 use Rattle.eg_values.specs.Calibration.{CalibrationParts}
 use Rattle.eg_campaign.specs.declared.play.RunInput.{RunInput}
 use Rattle.eg_plant.specs.Foreign.{Foreign}

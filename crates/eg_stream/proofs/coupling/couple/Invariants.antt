@@ -1,5 +1,5 @@
 use Rattle.std.proofs.Common.{◌≡◌, List, length}
-use Rattle.eg_readings.specs.declared.answered.PartnerAnswer.{PartnerAnswer}
+use Rattle.eg_input.specs.declared.answered.PartnerAnswer.{PartnerAnswer}
 use Rattle.eg_outcome.specs.Changes.{change}
 use Rattle.eg_tick.specs.Commanding.{commands_next}
 use Rattle.eg_stream.specs.Coupled.{unit_of, entries_by}

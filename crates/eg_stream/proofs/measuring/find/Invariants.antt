@@ -1,6 +1,6 @@
 use Rattle.std.proofs.Common.{◌≡◌, List, []}
 use Rattle.eg_outcome.specs.Changes.{change}
-use Rattle.eg_readings.specs.declared.recorded.Recorded.{Recorded}
+use Rattle.eg_input.specs.declared.recorded.Recorded.{Recorded}
 use Rattle.eg_replay.specs.Replay.{replayed, told_of}
 use Rattle.eg_replay.specs.Tallies.{IsTallyOf}
 use Rattle.eg_stream.specs.Recordings.{replay_in}

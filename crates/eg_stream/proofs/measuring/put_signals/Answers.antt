@@ -3,8 +3,8 @@ use Rattle.std.proofs.lemmas.Bool.{eqb-true, eqb-false}
 use Rattle.std.proofs.lemmas.Grind.{common_steps}
 use Rattle.eg_outcome.specs.Changes.{change}
 use Rattle.eg_outcome.specs.Lines.{end_of}
-use Rattle.eg_readings.specs.declared.columns.Columns.{Columns}
-use Rattle.eg_readings.specs.declared.recorded.Recorded.{Recorded}
+use Rattle.eg_input.specs.declared.columns.Columns.{Columns}
+use Rattle.eg_input.specs.declared.recorded.Recorded.{Recorded}
 use Rattle.eg_replay.specs.Replay.{told_after}
 use Rattle.eg_stream.specs.Recordings.{signals_in, signals_so_far, signals_work, RecordingEnds}
 use Rattle.eg_stream.specs.Reading.{RecordingGoesOn}

@@ -1,6 +1,6 @@
 use Rattle.std.proofs.Common.{List}
 use Rattle.eg_outcome.specs.Changes.{change}
-use Rattle.eg_readings.specs.declared.recorded.Recorded.{Recorded}
+use Rattle.eg_input.specs.declared.recorded.Recorded.{Recorded}
 use Rattle.eg_stream.specs.Streams.{HasWritten}
 use Rattle.eg_stream.specs.Recordings.{signals_in, signals_so_far}
 use Rattle.eg_stream.proofs.MeasuringLemmas.{HasRead}

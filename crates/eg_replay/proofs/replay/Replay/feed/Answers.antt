@@ -1,6 +1,6 @@
 use Rattle.eg_level2.specs.Words.{AreWithin, words_of}
 use Rattle.std.proofs.Common.{◌≡◌, ◌∙◌, List, sym, ap, subst}
-use Rattle.eg_readings.specs.declared.recorded.Recorded.{Recorded}
+use Rattle.eg_input.specs.declared.recorded.Recorded.{Recorded}
 use Rattle.eg_replay.specs.Replay.{given_readings, told_after}
 use Rattle.eg_replay.specs.Running.{ReplayParts, IsReplayOf}
 use Rattle.eg_replay.proofs.RunLemmas.{HasFed, fed-stands, fed-told}

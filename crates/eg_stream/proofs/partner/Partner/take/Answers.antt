@@ -1,7 +1,7 @@
 use Rattle.std.proofs.Common.{◌≡◌, ◌∙◌, sym, ap, refl, true, false, arith, Some, None}
 use Rattle.std.specs.Prelude.{◌==◌, Err}
 use Rattle.std.proofs.lemmas.Bool.Decides.{nat_tests}
-use Rattle.eg_readings.specs.Answering.{answer_of}
+use Rattle.eg_input.specs.Answering.{answer_of}
 use Rattle.eg_tick.specs.Commanding.{commanded_at}
 use Rattle.eg_stream.specs.Coupled.{NoAnswer, LoadBelowTorque, TorqueWhileOff, entries_by, covers}
 use Rattle.eg_stream.proofs.PartnerLemmas.{taken-none, taken-judged, taken-still, refuses, gives}

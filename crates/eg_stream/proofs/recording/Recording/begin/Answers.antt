@@ -1,7 +1,7 @@
 use Rattle.std.proofs.Common.{◌∙◌, sym, subst, ◌+◌}
 use Rattle.eg_outcome.specs.Changes.{change_of}
 use Rattle.eg_outcome.specs.Lines.{LineComes}
-use Rattle.eg_readings.specs.declared.recorded.TheConstants.{MOST_BYTES}
+use Rattle.eg_input.specs.declared.recorded.TheConstants.{MOST_BYTES}
 use Rattle.eg_stream.proofs.BeginLemmas.{begins, begins_not}
 use Rattle.eg_stream.proofs.recording.Recording.begin.Goals as goal
 

@@ -1,9 +1,9 @@
 use Rattle.std.proofs.Common.{◌≡◌, ◌∙◌, sym, inl, true, None, Some, arith, ◌+◌, ◌<◌}
 use Rattle.std.proofs.lemmas.Grind.{common_steps}
 use Rattle.eg_outcome.proofs.ComingLemmas.{seen_line}
-use Rattle.eg_readings.specs.declared.recorded.TheConstants.{MOST_BYTES}
-use Rattle.eg_readings.specs.Recording.{recorded_of}
-use Rattle.eg_readings.proofs.LengthLaws.{recorded_of-seen}
+use Rattle.eg_input.specs.declared.recorded.TheConstants.{MOST_BYTES}
+use Rattle.eg_input.specs.Recording.{recorded_of}
+use Rattle.eg_input.proofs.LengthLaws.{recorded_of-seen}
 use Rattle.eg_stream.proofs.recording.Recording.next.Goals as goal
 
 pub returns-in-Some-clause-next : goal.returns-in-Some-clause-next

@@ -11,9 +11,9 @@ use Rattle.eg_input.specs.Fields.{number_of, truth_of}
 use Rattle.eg_input.specs.Plain.{BeginsWithField}
 use Rattle.eg_input.proofs.FieldLemmas.{number_of-le}
 use Rattle.eg_input.proofs.CursorLemmas.{said-begins}
-use Rattle.eg_readings.specs.Recording.{before_return, first_number}
-use Rattle.eg_readings.specs.Answering.{first_truth, answer_of}
-use Rattle.eg_readings.specs.declared.answered.PartnerAnswer.{PartnerAnswer}
+use Rattle.eg_input.specs.Recording.{before_return, first_number}
+use Rattle.eg_input.specs.Answering.{first_truth, answer_of}
+use Rattle.eg_input.specs.declared.answered.PartnerAnswer.{PartnerAnswer}
 
 -- a field that writes a number has five bytes at most, one that writes a truth value one
 pub number_of-short : (most : ℕ) (field : List ℕ) (number : ℕ) → number_of most field ≡ Some number → length field ≤ 5

@@ -1,8 +1,9 @@
 // The numbers of a line.
 ghost use Rattle.std.specs.Prelude.{◌≡◌};
-ghost use Rattle.eg_readings.specs.Recording.{numbers_of};
+ghost use Rattle.eg_input.specs.Recording.{numbers_of};
 
-use eg_input::{first_number, number_of};
+use crate::cursor::first_number;
+use crate::field::number_of;
 
 /// The numbers of a line of exactly `N` fields, or None where it has another count of fields or a field that
 /// writes no number.

@@ -4,10 +4,10 @@ use Rattle.std.specs.Prelude.{codes}
 use Rattle.eg_num.specs.Drive.{DriveRow}
 use Rattle.eg_input.specs.Fields.{decimal_value, number_of, truth_of, first_field, first_said}
 use Rattle.eg_sensor.specs.declared.readings.Readings.{Readings}
-use Rattle.eg_readings.specs.declared.columns.Columns.TheVariants as columns
-use Rattle.eg_readings.specs.Answering.{answer_of}
-use Rattle.eg_readings.specs.declared.answered.PartnerAnswer.{PartnerAnswer}
-use Rattle.eg_readings.specs.Recording.{before_return, header, columns_of, numbers_of, readings_from, recorded_of}
+use Rattle.eg_input.specs.declared.columns.Columns.TheVariants as columns
+use Rattle.eg_input.specs.Answering.{answer_of}
+use Rattle.eg_input.specs.declared.answered.PartnerAnswer.{PartnerAnswer}
+use Rattle.eg_input.specs.Recording.{before_return, header, columns_of, numbers_of, readings_from, recorded_of}
 
 -- every definition of reading a line
 unfoldable reading : ℕ

@@ -1,6 +1,6 @@
 // The end of a line.
 ghost use Rattle.std.specs.Prelude.{◌≡◌};
-ghost use Rattle.eg_readings.specs.Recording.{before_return};
+ghost use Rattle.eg_input.specs.Recording.{before_return};
 
 /// The line without the carriage return that it may end with.
 #[tactic(auto, unfolding(crate::specs::Recording::before_return))]

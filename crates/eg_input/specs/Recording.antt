@@ -7,9 +7,9 @@ use Rattle.std.specs.Str.{byte, bytes_eq}
 use Rattle.eg_input.specs.Fields.{number_of, first_said, ◌>>=◌}
 use Rattle.eg_sensor.specs.Brake.{sound_contacts}
 use Rattle.eg_sensor.specs.declared.readings.Readings.{Readings}
-use Rattle.eg_readings.specs.declared.columns.Columns.{Columns}
-use Rattle.eg_readings.specs.declared.columns.Columns.TheVariants as columns
-use Rattle.eg_readings.specs.declared.recorded.Recorded.{Recorded}
+use Rattle.eg_input.specs.declared.columns.Columns.{Columns}
+use Rattle.eg_input.specs.declared.columns.Columns.TheVariants as columns
+use Rattle.eg_input.specs.declared.recorded.Recorded.{Recorded}
 
 -- the line without the carriage return that it may end with
 unfoldable pub before_return : List ℕ → List ℕ

@@ -7,12 +7,12 @@ use Rattle.std.proofs.lemmas.List.{take_all, length-take}
 use Rattle.std.proofs.lemmas.Option.{option_and_then_some}
 use Rattle.std.proofs.lemmas.Slice.Eq.{bytes_eq-Decides}
 use Rattle.eg_input.specs.Fields.{decimal_value, number_of, truth_of, first_field, first_said}
-use Rattle.eg_readings.specs.Recording.{before_return, header, columns_of, numbers_of, recorded_of}
-use Rattle.eg_readings.specs.Answering.{answer_of}
-use Rattle.eg_readings.specs.declared.answered.PartnerAnswer.{PartnerAnswer}
-use Rattle.eg_readings.specs.declared.columns.Columns.{Columns}
-use Rattle.eg_readings.specs.declared.columns.Columns.TheVariants as columns
-use Rattle.eg_readings.proofs.AnswerLemmas.{number_of-short, said-number, answered}
+use Rattle.eg_input.specs.Recording.{before_return, header, columns_of, numbers_of, recorded_of}
+use Rattle.eg_input.specs.Answering.{answer_of}
+use Rattle.eg_input.specs.declared.answered.PartnerAnswer.{PartnerAnswer}
+use Rattle.eg_input.specs.declared.columns.Columns.{Columns}
+use Rattle.eg_input.specs.declared.columns.Columns.TheVariants as columns
+use Rattle.eg_input.proofs.AnswerLemmas.{number_of-short, said-number, answered}
 
 -- a line of numbers has six bytes a field at most, its comma with them
 numbers_of-short : (width : ℕ) (line numbers : List ℕ) → numbers_of width line ≡ Some numbers → length line + 1 ≤ 6 * width

@@ -1,10 +1,11 @@
 // What a partner answers at one tick.
 ghost use Rattle.std.specs.Prelude.{◌≡◌, ◌<◌, ℕ, List, length, take, None, IsSome};
-ghost use Rattle.eg_readings.specs.Answering.{answer_of};
-ghost use Rattle.eg_readings.specs.declared.answered.TheConstants.{MOST_ANSWER_BYTES};
+ghost use Rattle.eg_input.specs.Answering.{answer_of};
+ghost use Rattle.eg_input.specs.declared.answered.TheConstants.{MOST_ANSWER_BYTES};
 
+use crate::cursor::{first_number, first_truth};
+use crate::field::number_of;
 use crate::line::before_return;
-use eg_input::{first_number, first_truth, number_of};
 use eg_num::Drive;
 use eg_plant::PartnerStep;
 

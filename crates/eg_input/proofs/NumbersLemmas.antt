@@ -2,7 +2,7 @@
 use Rattle.std.proofs.Common.{◌≡◌, ◌∙◌, sym, ap, refl, ℕ, zero, suc, ◌+◌, ◌-◌, ◌<◌, List, [], ◌∷◌, ◌++◌, arith, Option, Some, None, append_assoc}
 use Rattle.std.specs.Prelude.{option_map, option_and_then}
 use Rattle.eg_input.specs.Fields.{number_of}
-use Rattle.eg_readings.specs.Recording.{first_number, numbers_of}
+use Rattle.eg_input.specs.Recording.{first_number, numbers_of}
 
 -- the numbers of a line of n fields are those of the first i, which were read, and those of the text behind
 abbrev pub HasRead : ℕ → List ℕ → ℕ → List ℕ → List ℕ → Type 0

@@ -1,9 +1,9 @@
 // What was recorded of one tick.
 ghost use Rattle.std.specs.Prelude.{◌≡◌, ◌≤◌, ◌<◌, ◌+◌, ℕ, List, length, take, None, Some};
-ghost use Rattle.eg_readings.specs.Recording.{columns_of, readings_from, recorded_of};
-ghost use Rattle.eg_readings.specs.declared.columns.Columns.{Columns as SomeColumns};
-ghost use Rattle.eg_readings.specs.declared.columns.Columns.TheVariants.{WithBrake};
-ghost use Rattle.eg_readings.specs.declared.recorded.TheConstants.{MOST_BYTES};
+ghost use Rattle.eg_input.specs.Recording.{columns_of, readings_from, recorded_of};
+ghost use Rattle.eg_input.specs.declared.columns.Columns.{Columns as SomeColumns};
+ghost use Rattle.eg_input.specs.declared.columns.Columns.TheVariants.{WithBrake};
+ghost use Rattle.eg_input.specs.declared.recorded.TheConstants.{MOST_BYTES};
 
 use crate::Columns;
 use crate::line::before_return;

@@ -1,8 +1,8 @@
 use Rattle.std.proofs.Common.{◌≡◌, ◌∙◌, ◌+◌, take, ap, sym, subst, set, ◌++◌, ◌∷◌, [], Some, arith}
 use Rattle.std.specs.Prelude.{option_map}
 use Rattle.std.proofs.lemmas.List.{take_more_set, length-set, take_all}
-use Rattle.eg_readings.proofs.FieldLemmas.{HasRead, step, spoiled, ended, numbers_of-none}
-use Rattle.eg_readings.proofs.number.numbers.Goals as goal
+use Rattle.eg_input.proofs.NumbersLemmas.{HasRead, step, spoiled, ended, numbers_of-none}
+use Rattle.eg_input.proofs.number.numbers.Goals as goal
 
 pub returns-in_err-last : goal.returns-in_err-last
 returns-in_err-last g c =

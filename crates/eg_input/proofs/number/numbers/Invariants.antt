@@ -1,6 +1,6 @@
 use Rattle.std.proofs.Common.{◌≡◌, take, length}
-use Rattle.eg_readings.proofs.FieldLemmas.{HasRead}
-use Rattle.eg_readings.proofs.number.numbers.Given as goal
+use Rattle.eg_input.proofs.NumbersLemmas.{HasRead}
+use Rattle.eg_input.proofs.number.numbers.Given as goal
 
 -- the fields before
 abbrev pub invariant-loop-i : goal.invariant-loop-i

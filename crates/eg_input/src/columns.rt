@@ -1,6 +1,6 @@
 // The columns of a recording.
 ghost use Rattle.std.specs.Prelude.{◌≡◌};
-ghost use Rattle.eg_readings.specs.Recording.{columns_of};
+ghost use Rattle.eg_input.specs.Recording.{columns_of};
 
 use crate::line::before_return;
 

@@ -5,8 +5,8 @@
 use Rattle.std.specs.Prelude.{ℕ, Bool, List, Option, Some}
 use Rattle.std.specs.Str.{byte}
 use Rattle.eg_input.specs.Fields.{number_of, truth_of, first_said, ◌>>=◌}
-use Rattle.eg_readings.specs.Recording.{before_return, first_number}
-use Rattle.eg_readings.specs.declared.answered.PartnerAnswer.{PartnerAnswer}
+use Rattle.eg_input.specs.Recording.{before_return, first_number}
+use Rattle.eg_input.specs.declared.answered.PartnerAnswer.{PartnerAnswer}
 
 -- the truth value before the first comma of a text, and what stands behind that comma
 abbrev pub first_truth : List ℕ → Option (Bool × List ℕ)

@@ -1,4 +1,0 @@
-pub mod FieldLemmas
-pub mod AnswerLemmas
-pub mod LengthLaws
-mod Worked
