@@ -1,63 +1,80 @@
 // The lines of standard input.
-ghost use Rattle.std.specs.Prelude.{◌≡◌, ◌++◌, ℕ, List, Ok, None, true, false, take, OnErr};
-ghost use Rattle.eg_base.specs.Outside.{BeginsWith};
+ghost use Rattle.std.specs.Prelude.{◌≡◌, false, IfOk, IsOkUnless, option_map};
+ghost use Rattle.eg_base.specs.declared.store.ReadRefusal.TheVariants.{Memory};
+ghost use Rattle.eg_lines.specs.Lines.{lines_in};
 
 use eg_base::ReadRefusal;
 use eg_lines::{Lines, ReadLines};
 use std::alloc::Global;
 use std::io::{BufReader, Read};
+use std::marker::Model;
 
 /// The lines of a reader such as standard input. Its buffer is taken as the first line is asked for, so that
-/// a command that takes no lines needs none and reads none. No contract tells the lines of the system.
+/// a command that takes no lines needs none and reads none. Where there is no memory for it, that call is
+/// refused and nothing is read.
+///
+/// Contracts see what is shown (`ShownLines`): the lines of the bytes that the reader tells, and of which the
+/// lines that came are gone. Standard input tells none.
 #[derive(Drop)]
-pub(crate) struct LateLines<R: Read + Drop> {
+pub(crate) struct LateLines<R: Read + Copy + Drop> {
     alloc: Global,
-    reader: Option<R>,
+    reader: R,
     lines: Option<ReadLines<BufReader<R>>>,
-    faults: u64,
 }
 
-impl<R: Read + Drop> LateLines<R> {
+impl<R: Read + Copy + Drop> Model for LateLines<R> {
+    ghost use Rattle.std.specs.Prelude.{IsSome, IfSome};
+    ghost use Rattle.eg_lines.specs.Lines.{ShownLines};
+    ghost use Rattle.egasim.specs.Late.{shown_late};
+
+    ghost Value = { ShownLines };
+
+    ghost view = { λ s. shown_late (R.remaining s.reader) s.lines };
+
+    ghost invariant = { λ s. IsSome (R.remaining s.reader) → IfSome s.lines (λ made. IsSome made.lines) };
+}
+
+impl<R: Read + Copy + Drop> LateLines<R> {
     /// The lines of this reader. Takes no memory.
-    pub(crate) fn new(alloc: Global, reader: R) -> LateLines<R> {
+    pub(crate) fn new(alloc: Global, reader: R) -> LateLines<R>
+        ensures shown { ⟦<LateLines<R> as Lines>⟧.shows result
+            ≡ record { lines = option_map lines_in (R.remaining reader); faults = 0; sure = false } }
+    {
         LateLines {
             alloc,
-            reader: Some(reader),
+            reader,
             lines: None,
-            faults: 0,
-        }
-    }
-
-    /// Appends the first `most` bytes of the next line to `into`, or all where it is shorter. Answers whether
-    /// there was a line.
-    fn append(&mut self, most: usize, into: &mut Vec<u8>) -> Result<bool, ReadRefusal>
-        ensures line { result ≡ Ok true
-            → (line : List ℕ) × (into.new.items ≡ into.old.items ++ take most line) }
-        ensures end { result ≡ Ok false → into.new.items ≡ into.old.items }
-        ensures kept { OnErr result (BeginsWith into.old.items into.new.items) }
-        ensures faults { self.new.faults ≡ self.old.faults }
-    {
-        if let Some(reader) = self.reader.take() {
-            let Ok(buffered) = BufReader::new(self.alloc, reader) else {
-                return Err(ReadRefusal::Memory);
-            };
-            self.lines = Some(ReadLines::new(self.alloc, buffered));
-        }
-        match &mut self.lines {
-            Some(lines) => lines.next(most, into),
-            None => Err(ReadRefusal::Memory),
         }
     }
 }
 
-impl<R: Read + Drop> Lines for LateLines<R> {
-    ghost shows = { λ s. record { lines = None; faults = s.faults; sure = false } };
+impl<R: Read + Copy + Drop> Lines for LateLines<R> {
+    ghost shows = { λ s. s };
 
     fn next(&mut self, most: usize, into: &mut Vec<u8>) -> Result<bool, ReadRefusal> {
-        let outcome = self.append(most, into);
-        if let Err(ReadRefusal::Failed) = outcome {
-            self.faults = self.faults.saturating_add(1);
+        match &mut self.lines {
+            Some(lines) => lines.next(most, into),
+            None => {
+                let mut lines = buffered(self.alloc, self.reader)?;
+                let outcome = lines.next(most, into);
+                self.lines = Some(lines);
+                outcome
+            }
         }
-        outcome
+    }
+}
+
+/// The lines of this reader behind a buffer, for which memory may run out.
+fn buffered<R: Read + Drop>(
+    alloc: Global,
+    reader: R,
+) -> Result<ReadLines<BufReader<R>>, ReadRefusal>
+    ensures refused { IsOkUnless result Memory }
+    ensures lines { IfOk result (λ made. made.lines ≡ option_map lines_in (R.remaining reader)) }
+    ensures faults { IfOk result (λ made. made.faults ≡ 0) }
+{
+    match BufReader::new(alloc, reader) {
+        Ok(reader) => Ok(ReadLines::new(alloc, reader)),
+        Err(_) => Err(ReadRefusal::Memory),
     }
 }
