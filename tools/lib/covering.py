@@ -66,23 +66,28 @@ def ranges_said(numbers):
                      for first, last in ranges)
 
 
-def missing(cover):
-    """What no question exercises, in words."""
-    never = {thing for thing, numbers in cover.items() if not numbers}
+def in_words(things):
+    """Things that questions exercise, in words."""
+    things = set(things)
     for result, what in enumerate(NUMBERS):
         for value in (1, 0):
-            bits = sorted(thing[1] for thing in never if thing[0] == result and thing[2] == value)
+            bits = sorted(thing[1] for thing in things if thing[0] == result and thing[2] == value)
             if bits:
-                yield f"no {value} in {'bit' if len(bits) == 1 else 'bits'} {ranges_said(bits)} of {what}"
-    yield from (f"no result {value} of the comparison" for value in (1, 0) if f"comparison {value}" in never)
-    yield from (f"no {thing} of the comparison" for thing in ("tie", "tie plus one") if thing in never)
+                yield f"{value} in {'bit' if len(bits) == 1 else 'bits'} {ranges_said(bits)} of {what}"
+    yield from (f"result {value} of the comparison" for value in (1, 0) if f"comparison {value}" in things)
+    yield from (f"{thing} of the comparison" for thing in ("tie", "tie plus one") if thing in things)
     for pair in PAIRS:
-        yield from (f"no pair of the {pair} {where} its tolerance"
-                    for where in ("within", "beyond") if f"{pair} {where}" in never)
-    if "good check word" in never:
-        yield "no good check word by which a raise counts"
-    if "bad check word" in never:
-        yield "no bad check word that keeps a raise from counting"
+        yield from (f"pair of the {pair} {where} its tolerance"
+                    for where in ("within", "beyond") if f"{pair} {where}" in things)
+    if "good check word" in things:
+        yield "good check word by which a raise counts"
+    if "bad check word" in things:
+        yield "bad check word that keeps a raise from counting"
+
+
+def missing(cover):
+    """What no question exercises, in words."""
+    yield from (f"no {words}" for words in in_words(thing for thing, numbers in cover.items() if not numbers))
 
 
 def told(cover):
