@@ -1,7 +1,10 @@
 #!/usr/bin/env python3
 """A driver and an engine of your own around the unit: copy this file, and put yours in their places.
 
-    tools/couple tools/partner.py CAMPAIGN RUN >record.csv      (docs/START.md, "An engine of your own")"""
+    tools/couple tools/partner.py CAMPAIGN RUN >record.csv      (docs/START.md, "An engine of your own")
+
+tools/couple starts it. It reads lines of the record on standard input, each with what the unit commands for the next
+tick, and answers each with a line on standard output (docs/FORMATS.md, "The lines of `couple`")."""
 
 import csv
 import sys
@@ -25,6 +28,8 @@ class Engine:
         return position, load, load, load * KT * ignition // 1000000 if on else 0
 
 
+if sys.argv[1:] in (["-h"], ["--help"]):
+    sys.exit(print(__doc__))
 engine, rows = Engine(), csv.DictReader(sys.stdin)
 for drive, row in zip(driver(), rows):
     reset, on, held = drive[3], row["next_on"] == "1", row["next_held"]
