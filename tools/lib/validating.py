@@ -201,7 +201,7 @@ def report(version, commit, begun, numbers, outcomes, top=TOP):
         equal = list(equal)
         took = f" in {max(outcome.seconds for outcome in equal):.0f} s" if status != QUOTED else ""
         commands = ", ".join(f"`{' '.join(outcome.step.words)}`" for outcome in equal)
-        yield f"- {commands} {status}{took}: {'; '.join(told)}"
+        yield f"- {commands} {status}{took}{', each' if len(equal) > 1 else ''}: {'; '.join(told)}"
     yield from ["", "Left out:", ""]
     yield from (f"- {line}" for line in lines)
     yield f"- of `bench/`: {', '.join(others(outcomes, top))}"

@@ -92,7 +92,7 @@ class Validating(InFolder):
         self.assertEqual(lines[-1], "- of `bench/`: b")
         self.assertEqual(others([played], os.getcwd()), ["b"])
         parts = [Outcome(Step(f"c-{seed}", ["bench/c", str(seed)]), PASSED, ["5 equal"], seconds) for seed, seconds in ((1, 9), (2, 7))]
-        self.assertIn("- `bench/c 1`, `bench/c 2` passed in 9 s: 5 equal", list(report(VERSION, "abc", 0, WHOLE, parts, os.getcwd())))
+        self.assertIn("- `bench/c 1`, `bench/c 2` passed in 9 s, each: 5 equal", list(report(VERSION, "abc", 0, WHOLE, parts, os.getcwd())))
         bad = Outcome(Step("b", ["bench/b"]), FAILED, ["x"])
         self.assertEqual(next(report(VERSION, "abc", 0, SMALL, [played, bad], os.getcwd())), "## egasim 9.8.7, 1970-01-01: failed: b")
         self.assertTrue(next(report(VERSION, "abc", 0, SMALL, [played], os.getcwd())).endswith(": passed, but for what was left out"))
