@@ -8,6 +8,9 @@ use crate::{Opens, ReadRefusal, Store};
 use std::io::Read;
 use std::marker::Model;
 
+/// How many bytes are asked of a file at once.
+const PIECE: usize = 8192;
+
 /// A store of files that are opened by their names, such as the files of the system. Its files are told where
 /// its opener tells them, and it isn't sure.
 ///
@@ -17,6 +20,9 @@ use std::marker::Model;
 pub struct FileStore<O: Opens + Drop> {
     opener: O,
     faults: u64,
+    /// Where each read puts its bytes. It stands here, since a new one for each file would cost more than a
+    /// short file does.
+    piece: [u8; PIECE],
 }
 
 impl<O: Opens + Drop> Model for FileStore<O> {
@@ -34,18 +40,23 @@ impl<O: Opens + Drop> FileStore<O> {
         ensures shown { ⟦<FileStore<O> as Store>⟧.shows result
             ≡ record { files = O.files opener; faults = 0; sure = false } }
     {
-        FileStore { opener, faults: 0 }
+        FileStore {
+            opener,
+            faults: 0,
+            piece: [0; PIECE],
+        }
     }
 
     /// Appends the first `most` bytes of the file of that name, or all where they are fewer.
     #[tactic(auto, using(crate::proofs::OpenerLemmas::opened))]
-    fn append(&self, name: &str, most: usize, into: &mut Vec<u8>) -> Result<(), ReadRefusal>
+    fn append(&mut self, name: &str, most: usize, into: &mut Vec<u8>) -> Result<(), ReadRefusal>
         ensures ok { OnOk result
-            (Reads (O.files self.now.opener) name.now most into.old.items into.new.items) }
+            (Reads (O.files self.old.opener) name.now most into.old.items into.new.items) }
         ensures kept { OnErr result (BeginsWith into.old.items into.new.items) }
+        ensures same { self.new ≡ self.old }
     {
         match self.opener.open(name) {
-            Some(mut file) => append_from(&mut file, most, into),
+            Some(mut file) => append_from(&mut file, &mut self.piece, most, into),
             None => Err(ReadRefusal::Failed),
         }
     }
@@ -77,8 +88,14 @@ impl<O: Opens + Drop> Store for FileStore<O> {
     }
 }
 
-/// Appends the first `most` bytes that a reader has left, or all where they are fewer.
-fn append_from<F: Read>(file: &mut F, most: usize, into: &mut Vec<u8>) -> Result<(), ReadRefusal>
+/// Appends the first `most` bytes that a reader has left, or all where they are fewer. Each read goes through
+/// `piece`.
+fn append_from<F: Read>(
+    file: &mut F,
+    piece: &mut [u8; PIECE],
+    most: usize,
+    into: &mut Vec<u8>,
+) -> Result<(), ReadRefusal>
     ensures ok { OnOk result ((bytes : List ℕ) × (into.new.items ≡ into.old.items ++ bytes)
         × (length bytes ≤ most)) }
 
@@ -87,7 +104,6 @@ fn append_from<F: Read>(file: &mut F, most: usize, into: &mut Vec<u8>) -> Result
         (λ left. into.new.items ≡ into.old.items ++ take most left)) }
     ensures kept { OnErr result (BeginsWith into.old.items into.new.items) }
 {
-    let mut piece = [0u8; 4096];
     let mut taken = 0;
     while taken < most {
         let room = piece.len().min(most - taken);

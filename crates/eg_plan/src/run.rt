@@ -41,7 +41,8 @@ pub struct RunPlan {
     pub fault: Option<Fault>,
 }
 
-/// Run number `run`, which a table says and whose name none of the earlier runs has, or its first refusal.
+/// The run that a table says, which comes after the earlier runs and whose name none of them has, or its
+/// first refusal. Its name is put to theirs.
 #[tactic(auto, unfolding(crate::specs::Runs::run_refusal, crate::specs::Checks::keys_refusal))]
 pub(crate) fn run_in(
     alloc: Global,
