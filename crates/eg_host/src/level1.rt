@@ -24,7 +24,7 @@ const LONGEST: u16 = 64;
 
 /// Level 1 as the unit keeps it: its machine, and the program of its code, so that a slice decodes no word
 /// (docs/CONCEPT.md, "Level 1"). Once a slice is seen to have changed nothing and to have needed no memory,
-/// later slices of as many steps are passed over; so are all slices of a machine that was trapped.
+/// later slices of as many steps are passed over; so are those of a machine that is seen to be trapped.
 ///
 /// Contracts see the machine and the program.
 #[derive(Drop)]
@@ -100,7 +100,10 @@ impl Level1 {
         if self.rest < budget {
             return Ok(());
         }
-        self.run(memory, budget)
+        if self.tries == 0 {
+            return self.run(memory, budget);
+        }
+        self.run_and_look(memory, budget)
     }
 
     /// A slice of a machine that may not be at rest. It isn't compiled into each caller.
@@ -111,9 +114,21 @@ impl Level1 {
             (M.shows memory.old) (M.shows memory.new) result }
         ensures program { self.new.program ≡ self.old.program }
     {
-        let before = self.host.registers;
         self.rest = UNKNOWN;
-        self.host.run(memory, Some(&self.program), budget)?;
+        self.host.run(memory, Some(&self.program), budget)
+    }
+
+    /// A slice of a machine that may not be at rest, and a look whether it rests then. It isn't compiled into
+    /// each caller, so that a machine at which nothing is looked for any more doesn't pay for it.
+    #[inline(never)]
+    fn run_and_look<M: Guarded>(&mut self, memory: &mut M, budget: u16) -> Result<(), NoMemory>
+        requires { IsProgramOf (M.shows memory.old).words self.old.program }
+        ensures slice { IsSlice budget self.old.registers self.new.registers
+            (M.shows memory.old) (M.shows memory.new) result }
+        ensures program { self.new.program ≡ self.old.program }
+    {
+        let before = self.host.registers;
+        self.run(memory, budget)?;
         match self.host.registers.state {
             State::Running => {}
             State::Waiting => self.look(&before),
@@ -127,12 +142,12 @@ impl Level1 {
         requires { self.old.registers.state ≡ Waiting }
         ensures { self.new ≡ self.old }
     {
-        if self.tries == 0 || self.host.registers != *before {
+        if self.host.registers != *before {
             return;
         }
         self.rest = rest_of(&self.program, &self.host.registers);
         if self.rest == UNKNOWN {
-            self.tries -= 1;
+            self.tries = self.tries.saturating_sub(1);
         }
     }
 }
