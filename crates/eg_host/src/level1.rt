@@ -61,6 +61,17 @@ impl Level1 {
         }
     }
 
+    /// Puts level 1 at its start, with another image of at most 1,024 words, in the place of this one.
+    pub fn reload(&mut self, image: &[u16])
+        requires { length image.now ≤ CODE_END }
+        ensures registers { self.new.registers ≡ new_registers }
+        ensures program { IsProgramOf image.now self.new.program }
+    {
+        self.rest = UNKNOWN;
+        self.program.load(image);
+        self.restart();
+    }
+
     /// Its machine.
     pub fn registers(&self) -> &Registers
         ensures { result.now ≡ self.now.registers }

@@ -1,7 +1,9 @@
 -- What is known of the code of a guarded memory, and of its program.
-use Rattle.std.proofs.Common.{◌≡◌, ◌∙◌, refl, sym, ap, subst, ℕ, zero, suc, ◌+◌, ◌<◌, ◌≤◌, IsTrue, List, [], length, slice_index, slice_set, take, replicate, arith, inl, inr}
+use Rattle.std.proofs.Common.{◌≡◌, ◌∙◌, refl, sym, ap, ap₂, subst, ℕ, zero, suc, ◌+◌, ◌<◌, ◌≤◌, IsTrue, arith, inl, inr}
+use Rattle.std.proofs.Common.{◌-◌, List, [], ◌++◌, length, slice_index, slice_set, take, drop, replicate}
 use Rattle.std.specs.Prelude.{slice_index_or, Some}
-use Rattle.std.proofs.lemmas.List.{length-set, length-replicate, length-take, get_or-set_same, get_or-set_other, get_or-take, get_or_past, take_all}
+use Rattle.std.proofs.lemmas.List.{length-set, length-replicate, length-take, length-append, length-drop, take_all}
+use Rattle.std.proofs.lemmas.List.{get_or-set_same, get_or-set_other, get_or-take, get_or_past, get_or_append_left, get_or-append_right, get_or-drop}
 use Rattle.std.proofs.lemmas.Bool.{cases_eq, cases_lt}
 use Rattle.eg_guard.specs.declared.regions.Who.TheVariants.{Level1}
 use Rattle.eg_guard.specs.Regions.{allows, access}
@@ -10,7 +12,7 @@ use Rattle.eg_guard.proofs.AccessLemmas.{code-is}
 use Rattle.eg_word.specs.declared.instruction.Instruction.{Instruction}
 use Rattle.eg_word.specs.Instructions.{instruction_of}
 use Rattle.eg_word.specs.Memory.{load_from, is_level1_own}
-use Rattle.eg_word.specs.Program.{IsProgramOf}
+use Rattle.eg_word.specs.Program.{IsProgramOf, IsOfFew}
 
 -- level 1 may load its code
 pub code_loads : (address : ℕ) → address < 1024 → IsTrue (access Level1 address).load
@@ -36,6 +38,35 @@ program-begins program is = record {
   count = ap length is ∙ length-replicate 1024 (instruction_of 0);
   each = λ address past within. ap (λ p. slice_index_or p address past) is ∙ replicate-index 1024 address (instruction_of 0) past within;
 }
+
+-- where the words of a program are put to 0, it is that of no words
+module _ (used : ℕ) (program front : List Instruction) (it : Instruction) (of : IsOfFew used program)
+    (made : front ≡ replicate (length (take used program)) it) (zeros : it ≡ instruction_of 0) where
+  abbrev cleared : List Instruction
+  cleared = front ++ drop used program
+
+  is : front ≡ replicate used (instruction_of 0)
+  is = let count : length (take used program) ≡ used = omega (arith, length-take used program, of.is.count, of.fits) in made ∙ ap₂ replicate count zeros
+
+  as_many : length front ≡ used
+  as_many = ap length is ∙ length-replicate used (instruction_of 0)
+
+  cleared-each : (k : ℕ) (past : Instruction) → k < 1024 → slice_index_or cleared k past ≡ instruction_of 0
+  cleared-each k past within =
+      elim (cases_lt k used) [
+        | inl before ↦ get_or_append_left front (drop used program) past k (omega (arith, as_many))
+            ∙ ap (λ xs. slice_index_or xs k past) is ∙ replicate-index used k (instruction_of 0) past before
+        | inr from ↦ let place : used + (k - used) ≡ k = omega arith in
+            get_or-append_right front (drop used program) used k past as_many from
+            ∙ get_or-drop used program (k - used) past ∙ ap (λ n. slice_index_or program n past) place
+            ∙ of.is.each k past within ∙ ap instruction_of (get_or_past of.words k 0 (omega (arith, of.few)))
+      ]
+
+  pub program-cleared : IsProgramOf [] cleared
+  program-cleared = record {
+    count = omega (arith, length-append front (drop used program), as_many, length-drop used program, of.is.count, of.fits);
+    each = cleared-each;
+  }
 
 -- the first `count` words of an image show 0 at each place from `count` on
 beyond-take : (image : List ℕ) (count k : ℕ) → count ≤ k → slice_index (take count image) k ≡ 0
@@ -73,7 +104,7 @@ pub program-ends : (image : List ℕ) (program : List Instruction) → IsProgram
 program-ends image program is = subst (λ words. IsProgramOf words program) (take_all (length image) image (omega arith)) is
 
 -- how a program is made
-pub ruleset programs = (program-begins, program-more, program-ends)
+pub ruleset programs = (program-cleared, program-begins, program-more, program-ends)
 
 -- ---- the program of other words ----
 

@@ -1,5 +1,5 @@
 // The code of level 1 as instructions.
-ghost use Rattle.std.specs.Prelude.{◌≡◌, ◌<◌, ◌≤◌, ◌↔◌, length, replicate, slice_index, slice_index_or};
+ghost use Rattle.std.specs.Prelude.{◌≡◌, ◌<◌, ◌≤◌, ◌↔◌, [], length, replicate, slice_index, slice_index_or};
 ghost use Rattle.std.specs.Prelude.{IsOk, IfOk};
 ghost use Rattle.std.specs.Option.{option_copied};
 ghost use Rattle.eg_guard.specs.declared.regions.TheConstants.{DATA as CODE_END};
@@ -19,15 +19,20 @@ use std::marker::Model;
 #[derive(Drop)]
 pub struct Program {
     code: [Instruction; DATA as usize],
+    /// How many words its image has: what stands behind them is 0.
+    used: usize,
 }
 
 impl Model for Program {
     ghost use Rattle.std.specs.Prelude.{List};
     ghost use Rattle.eg_word.specs.declared.instruction.Instruction.{Instruction};
+    ghost use Rattle.eg_word.specs.Program.{IsOfFew};
 
     ghost Value = { List Instruction };
 
     ghost view = { λ p. p.code };
+
+    ghost invariant = { λ p. IsOfFew p.used p.code };
 }
 
 impl Program {
@@ -37,11 +42,34 @@ impl Program {
         requires { length image.now ≤ CODE_END }
         ensures { IsProgramOf image.now result }
     {
-        let mut code = clear_code();
+        let mut program = Program {
+            code: clear_code(),
+            used: 0,
+        };
+        program.load(image);
+        program
+    }
+
+    /// Puts the program of another image of at most 1,024 words in the place of this one.
+    #[tactic(auto, using(crate::proofs::ProgramLemmas::programs))]
+    pub fn load(&mut self, image: &[u16])
+        requires { length image.now ≤ CODE_END }
+        ensures { IsProgramOf image.now self.new }
+    {
+        self.clear();
         for (address, word) in image.iter().enumerate() {
-            code[address] = decode(*word);
+            self.code[address] = decode(*word);
         }
-        Program { code }
+        self.used = image.len();
+    }
+
+    /// Puts the program of no words in the place of this one.
+    #[tactic(auto, using(crate::proofs::ProgramLemmas::programs))]
+    fn clear(&mut self)
+        ensures { IsProgramOf [] self.new }
+    {
+        self.code[..self.used].fill(decode(0));
+        self.used = 0;
     }
 
     /// An equal program. It takes no memory.
@@ -50,7 +78,10 @@ impl Program {
     {
         let mut code = clear_code();
         code.copy_from_slice(&self.code);
-        Program { code }
+        Program {
+            code,
+            used: self.used,
+        }
     }
 
     /// The instruction at that address of this memory's code, of which this is the program. Refused exactly
