@@ -5,6 +5,7 @@ pub mod Checks
 pub mod Classes
 pub mod Faults
 pub mod Runs
+pub mod Names
 pub mod Campaign
 pub mod Ticks
 pub mod Rules

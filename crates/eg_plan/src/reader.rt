@@ -1,5 +1,5 @@
 // The reader of campaign files.
-ghost use Rattle.std.specs.Prelude.{◌≡◌, ◌+◌, ◌<◌, ◌≤◌, [], true, nat_le, length, option_map, Err, IfOk};
+ghost use Rattle.std.specs.Prelude.{◌≡◌, ◌+◌, ◌<◌, ◌≤◌, [], ◌∷◌, ◌++◌, true, nat_le, length, option_map, Err, IfOk, OnOk};
 ghost use Rattle.toml.specs.View.{view, table_view, items_view};
 ghost use Rattle.eg_toml.specs.Documents.{document_of};
 ghost use Rattle.eg_toml.specs.Weight.{is_too_heavy};
@@ -7,6 +7,7 @@ ghost use Rattle.eg_toml.specs.Arrays.{count};
 ghost use Rattle.eg_toml.specs.Refusals.{IsRead, Reads, seen};
 ghost use Rattle.eg_plan.specs.declared.key.CampaignFault.TheVariants.{Memory};
 ghost use Rattle.eg_plan.specs.Runs.{all_items, is_table, run_of, run_refusal};
+ghost use Rattle.eg_plan.specs.Names.{AreNamesOf};
 ghost use Rattle.eg_plan.specs.Campaign.{members_in, runs_of, runs_refusal, run_array, run_items, are_runs, is_top_known, refusal_of, campaign_of};
 ghost use Rattle.eg_plan.specs.Rules.{AreRuns};
 
@@ -14,6 +15,7 @@ use crate::run::{RunPlan, are_tables, run_in};
 use crate::{CampaignFault, RunKey};
 use eg_toml::{has_only_names, member, read_document};
 use std::alloc::Global;
+use std::collections::HashSet;
 use toml::{Table, Value};
 
 /// The runs that a campaign file says (docs/FORMATS.md, "Campaign files"), or the first rule that the file
@@ -108,23 +110,31 @@ fn runs_in(alloc: Global, items: &[Value]) -> Result<Vec<RunPlan>, CampaignFault
         Reads Memory (runs_refusal 1 [] ds) (runs_of ds) (seen (λ runs. runs.items) result) }
 {
     let mut runs = Vec::new(alloc);
+    let mut names = HashSet::new(alloc);
     for item in items {
-        let plan = next_run(alloc, item, runs.as_slice())?;
+        let plan = next_run(alloc, item, runs.as_slice(), &mut names)?;
         runs.push(plan)?;
     }
     Ok(runs)
 }
 
-/// The run that a table says, which comes after these, or its first refusal.
-fn next_run(alloc: Global, item: &Value, earlier: &[RunPlan]) -> Result<RunPlan, CampaignFault>
+/// The run that a table says, as `run_in` reads it.
+fn next_run<'a>(
+    alloc: Global,
+    item: &'a Value,
+    earlier: &[RunPlan],
+    names: &mut HashSet<&'a str>,
+) -> Result<RunPlan, CampaignFault>
     requires table { is_table (view item.now) ≡ true }
     requires few { length earlier.now < 1000 }
-    ensures { let ms = members_in (view item.now) in
+    requires names { AreNamesOf earlier.now names.old }
+    ensures read { let ms = members_in (view item.now) in
         Reads Memory (run_refusal (length earlier.now + 1) earlier.now ms) (run_of ms) result }
+    ensures names { OnOk result
+        (AreNamesOf (earlier.now ++ run_of (members_in (view item.now)) ∷ []) names.new) }
 {
-    let run = earlier.len() as u32 + 1;
     match item.as_table() {
-        Some(table) => run_in(alloc, table, run, earlier),
+        Some(table) => run_in(alloc, table, earlier, names),
         None => unreachable!(),
     }
 }

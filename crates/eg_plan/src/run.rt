@@ -1,5 +1,5 @@
 // One run of a campaign.
-ghost use Rattle.std.specs.Prelude.{◌≡◌, nat_le, option_map};
+ghost use Rattle.std.specs.Prelude.{◌≡◌, ◌+◌, ◌<◌, [], ◌∷◌, ◌++◌, nat_le, length, option_map, OnOk};
 ghost use Rattle.toml.specs.Data.{get_item};
 ghost use Rattle.toml.specs.View.{view, table_view, items_view};
 ghost use Rattle.eg_toml.specs.Arrays.{count};
@@ -7,7 +7,8 @@ ghost use Rattle.eg_toml.specs.Names.{all_names, is_among};
 ghost use Rattle.eg_toml.specs.Refusals.{Checks, Reads};
 ghost use Rattle.eg_plan.specs.declared.key.CampaignFault.TheVariants.{Memory};
 ghost use Rattle.eg_plan.specs.Faults.{fault_of};
-ghost use Rattle.eg_plan.specs.Runs.{all_items, is_table, array_refusal, faults_refusal, fault_table, table_refusal, run_names, table_is_known, is_all_known, run_of, has_name, run_refusal};
+ghost use Rattle.eg_plan.specs.Runs.{all_items, is_table, array_refusal, faults_refusal, fault_table, table_refusal, run_names, table_is_known, is_all_known, run_of, run_refusal};
+ghost use Rattle.eg_plan.specs.Names.{AreNamesOf};
 
 use crate::engine::engine;
 use crate::fault::{fault_in, has_own_names};
@@ -19,6 +20,7 @@ use eg_fault::Fault;
 use eg_host::SlicePlan;
 use eg_toml::{has_only_names, member};
 use std::alloc::Global;
+use std::collections::HashSet;
 use toml::{Table, Value};
 
 /// The names that the table of a run may have.
@@ -41,19 +43,24 @@ pub struct RunPlan {
     pub fault: Option<Fault>,
 }
 
-/// The run that a table says, which comes after the earlier runs and whose name none of them has, or its
-/// first refusal. Its name is put to theirs.
+/// The run that a table says, which comes after the earlier runs and whose name none of them has, or its first
+/// refusal. Its name is put to theirs.
 #[tactic(auto, unfolding(crate::specs::Runs::run_refusal, crate::specs::Checks::keys_refusal))]
-pub(crate) fn run_in(
+pub(crate) fn run_in<'a>(
     alloc: Global,
-    table: &Table,
-    run: u32,
+    table: &'a Table,
     earlier: &[RunPlan],
+    names: &mut HashSet<&'a str>,
 ) -> Result<RunPlan, CampaignFault>
-    ensures { let ms = table_view table.now in
-        Reads Memory (run_refusal run earlier.now ms) (run_of ms) result }
+    requires few { length earlier.now < 1000 }
+    requires names { AreNamesOf earlier.now names.old }
+    ensures read { let ms = table_view table.now in
+        Reads Memory (run_refusal (length earlier.now + 1) earlier.now ms) (run_of ms) result }
+    ensures names { OnOk result
+        (AreNamesOf (earlier.now ++ run_of (table_view table.now) ∷ []) names.new) }
 {
-    let name = run_name(alloc, table, run, RunKey::Name)?;
+    let run = earlier.len() as u32 + 1;
+    let name = run_name(table, run, RunKey::Name)?;
     let trace = file_name(alloc, table, run, RunKey::Trace)?;
     let image = file_name(alloc, table, run, RunKey::Image)?;
     let slices = slices(table, run, RunKey::Slices)?;
@@ -68,11 +75,11 @@ pub(crate) fn run_in(
             key: RunKey::Unknown,
         });
     }
-    if has_name(name.as_str(), earlier) {
+    if !names.insert(name)? {
         return Err(CampaignFault::Name { run });
     }
     Ok(RunPlan {
-        name,
+        name: Text::new(String::from_str(alloc, name)?),
         trace,
         image,
         slices,
@@ -164,10 +171,4 @@ fn table_is_known(table: Option<&Table>) -> bool
         Some(table) => has_own_names(table),
         None => true,
     }
-}
-
-fn has_name(name: &str, runs: &[RunPlan]) -> bool
-    ensures { result ≡ has_name name.now runs.now }
-{
-    runs.iter().any(|run| run.name.as_str() == name)
 }

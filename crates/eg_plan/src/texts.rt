@@ -4,7 +4,7 @@ ghost use Rattle.std.specs.List.{list_all};
 ghost use Rattle.toml.specs.View.{table_view};
 ghost use Rattle.eg_plan.specs.declared.key.CampaignFault.TheVariants.{Key, Memory};
 ghost use Rattle.eg_plan.specs.Keys.{text_of};
-ghost use Rattle.eg_toml.specs.Refusals.{Reads, unless_some};
+ghost use Rattle.eg_toml.specs.Refusals.{Checks, Reads, seen, unless_some};
 ghost use Rattle.eg_plan.specs.Contents.{is_plain, is_in_name, is_run_name, is_file_name, text_at};
 
 use crate::{CampaignFault, RunKey};
@@ -15,19 +15,15 @@ use toml::Table;
 
 /// The name of a run under a key of a table of this run: 1 to 32 of the characters a to z, 0 to 9 and `-`,
 /// not beginning with `-`.
-pub(crate) fn run_name(
-    alloc: Global,
-    table: &Table,
+pub(crate) fn run_name<'a>(
+    table: &'a Table,
     run: u32,
     key: RunKey,
-) -> Result<Text, CampaignFault>
+) -> Result<&'a str, CampaignFault>
     ensures { let read = text_at is_run_name (text_of key) (table_view table.now) in
-        Reads Memory (unless_some (Key run key) read) (unwrap_or read []) result }
+        Checks (unless_some (Key run key) read) (unwrap_or read []) (seen (λ name. name.now) result) }
 {
-    let Some(name) = run_name_at(table, key.text()) else {
-        return Err(CampaignFault::Key { run, key });
-    };
-    Ok(Text::new(String::from_str(alloc, name)?))
+    run_name_at(table, key.text()).ok_or(CampaignFault::Key { run, key })
 }
 
 fn run_name_at<'a>(table: &'a Table, key: &str) -> Option<&'a str>
