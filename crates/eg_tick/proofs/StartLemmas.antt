@@ -70,23 +70,28 @@ new_span s span m memory is = record {
 -- ---- a span that begins in a run ----
 
 -- from the calls by which it begins
-pub begun_span : (s : Setting) (tests : Bool) (old span : Span) (m : Registers) (memory : List ℕ) → old.monitor.times ≡ s.cal.times →
+pub begun_new : (s : Setting) (tests : Bool) (old span : Span) (m : Registers) (memory : List ℕ) → old.monitor.times ≡ s.cal.times →
     old.monitor.questions ≡ s.cal.questions → Holds s.image start new_world m memory → span ≡ begun tests old → HasGiven span.monitor [] →
-    span.monitor.verdicts ≡ period_of span.monitor.times 0 → HoldsSpan (kind_of tests) s span m memory []
+    span.monitor.verdicts ≡ period_of span.monitor.times 0 → IsNew s span m memory
 unfolding begun
-begun_span s tests old span m memory times questions held begins given period =
-    subst (λ (t : Bool). HoldsSpan (kind_of t) s span m memory []) (ap (λ (p : Span). p.tests) begins) (new_span s span m memory (record {
-      local = ap (λ (p : Span). p.local) begins;
-      limit = ap (λ (p : Span). p.limit) begins;
-      held = held;
-      open1 = ap (λ (p : Span). p.open1) begins;
-      open2 = ap (λ (p : Span). p.open2) begins;
-      times = ap (λ (p : Span). p.monitor.times) begins ∙ times;
-      questions = ap (λ (p : Span). p.monitor.questions) begins ∙ questions;
-      given = given;
-      period = period;
-      heard = ap (λ (p : Span). p.monitor.heard) begins;
-    }))
+begun_new s tests old span m memory times questions held begins given period = record {
+  local = ap (λ (p : Span). p.local) begins;
+  limit = ap (λ (p : Span). p.limit) begins;
+  held = held;
+  open1 = ap (λ (p : Span). p.open1) begins;
+  open2 = ap (λ (p : Span). p.open2) begins;
+  times = ap (λ (p : Span). p.monitor.times) begins ∙ times;
+  questions = ap (λ (p : Span). p.monitor.questions) begins ∙ questions;
+  given = given;
+  period = period;
+  heard = ap (λ (p : Span). p.monitor.heard) begins;
+}
+
+pub begun_span : (s : Setting) (tests : Bool) (old span : Span) (m : Registers) (memory : List ℕ) → span ≡ begun tests old →
+    IsNew s span m memory → HoldsSpan (kind_of tests) s span m memory []
+unfolding begun
+begun_span s tests old span m memory begins new =
+    subst (λ (t : Bool). HoldsSpan (kind_of t) s span m memory []) (ap (λ (p : Span). p.tests) begins) (new_span s span m memory new)
 
 -- ---- the controller ----
 

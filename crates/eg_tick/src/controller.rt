@@ -127,7 +127,8 @@ impl<E: Engine + Drop, M: Guarded + Drop> Controller<E, M> {
     {
         let mut memory = memory;
         let level2 = Level2::new(calibration.rules().copy(), calibration.questions().copy());
-        let level1 = set_up(&level2, image, &mut memory)?;
+        set_up(&level2, image, &mut memory)?;
+        let level1 = Level1::new(image);
         let test_ticks = test_ticks(calibration.times());
         let lookup = Lookup::new(calibration.rules(), 0, 0);
         let monitor = Monitor::new(calibration.times().copy(), calibration.questions().copy());

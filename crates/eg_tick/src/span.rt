@@ -2,8 +2,10 @@
 ghost use Rattle.std.specs.Prelude.{◌≡◌, ◌+◌, ◌<◌, ◌==◌, ◌||◌, false, List, [], OnOk, OnErr};
 ghost use Rattle.std.specs.Option.{option_copied};
 ghost use Rattle.eg_guard.specs.Memory.{KeepsMemory};
+ghost use Rattle.eg_answer.specs.Periods.{period_of};
 ghost use Rattle.eg_answer.specs.Times.{TimeParts, test_ticks_of};
 ghost use Rattle.eg_fault.specs.Faults.{effects};
+ghost use Rattle.eg_module.specs.Monitoring.{HasGiven};
 ghost use Rattle.eg_model.specs.History.{Setting, Tick, SpanKind};
 ghost use Rattle.eg_model.specs.Paths.{is_testing, is_told_to_open, reads_back};
 ghost use Rattle.eg_agree.specs.Doings.{phase_at};
@@ -80,22 +82,18 @@ impl Span {
         }
     }
 
-    /// A span begins in its place, with the same monitoring module: it has no tick, the permitted torque
-    /// before it is 0, and no latch is open.
-    fn start(&mut self, tests: bool)
-        ensures { self.new ≡ record self.old {
-          tests = tests;
-          passed = false;
-          local = 0;
-          limit = 0;
-          open1 = false;
-          open2 = false;
-        } }
+    /// A span begins in its place: it has no tick, the permitted torque before it is 0, no latch is open, and
+    /// the monitoring module begins again.
+    pub(crate) fn start(&mut self, tests: bool)
+        ensures begun { self.new ≡ begun tests self.old }
+        ensures given { HasGiven self.new.monitor [] }
+        ensures next { self.new.monitor.verdicts ≡ period_of self.new.monitor.times 0 }
     {
         self.tests = tests;
         self.passed = false;
         self.local = 0;
         self.limit = 0;
+        self.monitor.restart();
         self.open1 = false;
         self.open2 = false;
     }
@@ -243,6 +241,5 @@ fn begin<M: Guarded>(
 {
     restart(level2, level1, memory)?;
     span.start(tests);
-    span.monitor.restart();
     Ok(())
 }

@@ -1,6 +1,6 @@
 -- A tick of level 1 and level 2, from what the memory holds before it to what it holds after it.
 use Rattle.std.proofs.Common.{◌≡◌, ◌∙◌, sym, ap, ℕ, List, length}
-use Rattle.std.specs.Prelude.{Result, Ok, Err, OnOk, IfOk, IsErr}
+use Rattle.std.specs.Prelude.{Result, Ok, Err, OnOk, IsErr}
 use Rattle.std.proofs.lemmas.Result.{IfOk-from_err, on_ok_weaker}
 use Rattle.eg_guard.specs.Memory.{AreWords, ShownMemory, SameOutside, KeepsMemory}
 use Rattle.eg_guard.proofs.KeepsLemmas.{keeps_then, keeps_refused}

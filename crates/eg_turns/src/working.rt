@@ -1,10 +1,11 @@
 // What level 1 and level 2 do at a tick, and how they begin.
-ghost use Rattle.std.specs.Prelude.{◌≡◌, ℕ, ◌≤◌, ◌<◌, List, length, replicate, slice_index, OnOk, IfOk};
+ghost use Rattle.std.specs.Prelude.{◌≡◌, ℕ, ◌≤◌, ◌<◌, List, length, replicate, slice_index, OnOk};
 ghost use Rattle.std.specs.Option.{option_copied};
 ghost use Rattle.eg_guard.specs.declared.regions.TheConstants.{DATA as CODE_END, WORDS};
 ghost use Rattle.eg_guard.specs.Memory.{KeepsMemory};
+ghost use Rattle.eg_word.specs.declared.instruction.Instruction.{Instruction};
 ghost use Rattle.eg_word.specs.Program.{IsProgramOf};
-ghost use Rattle.eg_word.specs.World.{new_world};
+ghost use Rattle.eg_word.specs.World.{new_registers, new_world};
 ghost use Rattle.eg_level2.specs.Inputs.{IsPrepared};
 ghost use Rattle.eg_level2.specs.Words.{start};
 ghost use Rattle.eg_fault.specs.Faults.{effects, IsNoneOrValid};
@@ -39,24 +40,20 @@ pub struct Task {
     pub slices: Slices,
 }
 
-/// Level 1 and level 2 as a run begins, in a memory of 0s: the image, which has at most 1,024 words, is
-/// loaded, and level 2's words are put to their start (docs/CONCEPT.md, "Level 1" and "Level 2"). NoMemory is
-/// the one refusal.
-pub fn set_up<M: Guarded>(
-    level2: &Level2,
-    image: &[u16],
-    memory: &mut M,
-) -> Result<Level1, NoMemory>
+/// The memory as a run begins, where all is 0: the image, which has at most 1,024 words, is loaded, and level
+/// 2's words are put to their start (docs/CONCEPT.md, "Level 1" and "Level 2"). NoMemory is the one refusal.
+pub fn set_up<M: Guarded>(level2: &Level2, image: &[u16], memory: &mut M) -> Result<(), NoMemory>
     requires fits { length image.now ≤ CODE_END }
     requires zeros { (M.shows memory.old).words ≡ replicate WORDS 0 }
-    ensures holds { IfOk result (λ level1.
-        Holds image.now start new_world level1.registers (M.shows memory.new).words) }
-    ensures program { IfOk result (λ level1. IsProgramOf (M.shows memory.new).words level1.program) }
+    ensures holds { OnOk result
+        (Holds image.now start new_world new_registers (M.shows memory.new).words) }
+    ensures program { (program : List Instruction) → IsProgramOf image.now program
+        → OnOk result (IsProgramOf (M.shows memory.new).words program) }
     ensures keeps { KeepsMemory (M.shows memory.old) (M.shows memory.new) result }
 {
     load_image(memory, image)?;
     level2.reset(memory)?;
-    Ok(Level1::new(image))
+    Ok(())
 }
 
 /// Level 1 and level 2 as a span begins: all is as at the start of a run (docs/CONCEPT.md, "Power cycles").

@@ -5,11 +5,8 @@ ghost use Rattle.eg_fault.specs.Faults.{IsNoneOrValid};
 ghost use Rattle.eg_tick.specs.Stands.{Stands};
 
 use super::Controller;
-use crate::span::Span;
 use eg_fault::Fault;
 use eg_guard::FlatMemory;
-use eg_level2::Lookup;
-use eg_module::Monitor;
 use eg_plant::Engine;
 use eg_turns::set_up;
 
@@ -27,13 +24,11 @@ impl<E: Engine + Drop> Controller<E, FlatMemory> {
         ensures sure { IsTrue self.new.kept.memory.sure }
     {
         self.memory.clear();
-        let Ok(level1) = set_up(&self.level2, image, &mut self.memory) else {
+        let Ok(()) = set_up(&self.level2, image, &mut self.memory) else {
             unreachable!("a sure memory never runs out")
         };
-        let (times, questions) = (self.calibration.times(), self.calibration.questions());
-        self.span = Span::new(Monitor::new(times.copy(), questions.copy()));
-        self.lookup = Lookup::new(self.calibration.rules(), 0, 0);
-        self.level1 = level1;
+        self.level1.reload(image);
+        self.span.start(false);
         self.fault = fault;
         self.engine = engine;
         (self.ticks, self.trap, self.lost) = (0, None, false);
