@@ -7,10 +7,11 @@ ghost use Rattle.eg_campaign.specs.Plays.{rows_in_time};
 ghost use Rattle.eg_soak.specs.Facts.{facts_in, drawn_facts, is_first};
 ghost use Rattle.eg_soak.specs.Soak.{run_drawn};
 
+use crate::run_facts;
 use eg_draw::DrawnRun;
 use eg_plan::usual_slices;
 use eg_record::{Facts, Watch};
-use eg_tick::{Ticks, run_facts};
+use eg_tick::Ticks;
 use eg_values::Calibration;
 
 /// What `soak` counts of a run (docs/CONCEPT.md, "`soak`").

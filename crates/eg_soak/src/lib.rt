@@ -7,9 +7,11 @@
 
 mod facts;
 mod playing;
+mod run;
 mod summary;
 mod texts;
 
 pub use playing::soak;
+pub use run::run_facts;
 pub use summary::SoakSummary;
 pub use texts::soak_lines;

@@ -7,7 +7,7 @@ use Rattle.eg_model.specs.Records.{rows_to}
 use Rattle.eg_tick.specs.Run.{IsAt}
 use Rattle.eg_tick.specs.Margins.{weighed_to}
 use Rattle.eg_tick.proofs.RunLemmas.{counted}
-use Rattle.eg_tick.proofs.facts.facts_by.Given as goal
+use Rattle.eg_soak.proofs.run.facts_by.Given as goal
 
 -- the controller stands for the ticks so far, the tallies for their rows, and they are counted
 abbrev pub invariant-loop-tick : goal.invariant-loop-tick

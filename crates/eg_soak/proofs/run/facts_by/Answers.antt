@@ -12,7 +12,7 @@ use Rattle.eg_tick.specs.Margins.{weighed_to}
 use Rattle.eg_tick.proofs.RunLemmas.{counted, counted-none, drive-at}
 use Rattle.eg_tick.proofs.FactLaws.{told, told_to, tallied, counted-next, rows-next}
 use Rattle.eg_tick.proofs.WeighLemmas.{none_weighed}
-use Rattle.eg_tick.proofs.facts.facts_by.Goals as goal
+use Rattle.eg_soak.proofs.run.facts_by.Goals as goal
 
 pub loop-tick-init : goal.loop-tick-init
 loop-tick-init g c =

@@ -8,7 +8,7 @@ use Rattle.eg_model.proofs.GasolineLaws.{gasoline_keeps, gasoline_shows_one_load
 use Rattle.eg_tick.specs.Run.{run_by}
 use Rattle.eg_tick.specs.Facts.{record_facts, FactsReactWithin, FactsReactAtOnce, GoOffOnce}
 use Rattle.eg_tick.proofs.FactLaws.{is_run, facts_react, facts_react_at_once, facts_go_off_once}
-use Rattle.eg_tick.proofs.facts.run_facts.Goals as goal
+use Rattle.eg_soak.proofs.run.run_facts.Goals as goal
 
 pub returns-clause-facts : goal.returns-clause-facts
 unfolding record_facts

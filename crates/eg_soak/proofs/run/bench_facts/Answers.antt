@@ -2,7 +2,7 @@ use Rattle.std.proofs.Common.{sym, refl}
 use Rattle.std.specs.Option.{option_copied}
 use Rattle.eg_model.specs.Bench.{Run}
 use Rattle.eg_tick.specs.Run.{run_by}
-use Rattle.eg_tick.proofs.facts.bench_facts.Goals as goal
+use Rattle.eg_soak.proofs.run.bench_facts.Goals as goal
 
 pub facts_by-requires-clause-run : goal.facts_by-requires-clause-run
 facts_by-requires-clause-run g c =

@@ -13,14 +13,13 @@ ghost use Rattle.eg_tick.specs.Weights.{weight_of};
 ghost use Rattle.eg_tick.specs.Run.{run_by, IsAt};
 ghost use Rattle.eg_tick.specs.Facts.{IsToldOf, IsWithoutReset, FactsReactWithin, FactsReactAtOnce, GoOffOnce};
 
-use crate::bench::{bench_controller, bench_row};
-use crate::{BenchedEngine, Controller, SlicePlan, Ticks, weigh};
 use eg_answer::Rules;
 use eg_fault::Fault;
 use eg_guard::FlatMemory;
 use eg_num::Drive;
 use eg_plant::GasolineEngine;
 use eg_record::{Facts, MarginTally, RunFacts, Tally};
+use eg_tick::{BenchedEngine, Controller, SlicePlan, Ticks, bench_controller, bench_row, weigh};
 use eg_values::Calibration;
 use eg_word::Trap;
 
@@ -30,7 +29,7 @@ use eg_word::Trap;
 /// no memory and refuses nothing.
 ///
 /// Facts know no full-efficiency excess, so they can't say at which tick the sharp cut comes, and not where
-/// an excess stands, so they say nothing of lapses. `run_one` does.
+/// an excess stands, so they say nothing of lapses. `eg_tick::run_one` does.
 pub fn run_facts(
     calibration: &Calibration,
     image: &[u16],
@@ -76,7 +75,7 @@ pub fn run_facts(
 /// no memory and refuses nothing. That the facts show a reaction in time is a clause of `run_facts` alone. Of
 /// either engine `eg_laws::spans_react_in_time` says it by the reactions, and the headline by the rows.
 #[inline(never)]
-pub fn bench_facts<E: BenchedEngine, const WEIGHED: bool>(
+fn bench_facts<E: BenchedEngine, const WEIGHED: bool>(
     calibration: &Calibration,
     image: &[u16],
     plan: &SlicePlan,
