@@ -42,7 +42,7 @@ pub(crate) fn perform<L: Lines, K: Sink>(
             calibration,
             inputs,
         } => put_told(alloc, telling, &calibration, inputs.as_slice(), out, steps),
-        Job::Record { calibration, input } => put_record(alloc, &calibration, &input, out, steps),
+        Job::Record { calibration, input } => put_record(&calibration, &input, out, steps),
         Job::Sweep {
             calibration,
             input,

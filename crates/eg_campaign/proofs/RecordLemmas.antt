@@ -5,7 +5,7 @@ use Rattle.std.specs.List.{concat}
 use Rattle.std.proofs.lemmas.List.{map-append}
 use Rattle.std.proofs.lemmas.List.Folds.{concat-append}
 use Rattle.eg_base.specs.Outside.{ShownSink, Appends, AppendsPrefix}
-use Rattle.eg_base.proofs.AppendLemmas.{Appends-append, Appends-nil}
+use Rattle.eg_base.proofs.AppendLemmas.{Appends-append}
 use Rattle.eg_record.specs.declared.row.Row.{Row}
 use Rattle.eg_record.specs.Texts.{record_header, row_line}
 use Rattle.eg_model.specs.Engines.{BenchEngine}
@@ -112,10 +112,6 @@ module _ {S : Type 0} (b : BenchEngine S) (r : Run) where
     lines = tt;
     counted = counts_front b r 0 was was (omega arith) (same ∙ ap (counted was 0) (sym (no_rows b r)));
   }
-
-  -- before the header: nothing was written
-  pub stopped_before_header : (out : ShownSink) (was : TickCount) → was ≡ count_with was [] → IsStopped (reverse (record_rows b r)) out out was was
-  stopped_before_header out was = stopped_at_header out out was record_header refl ([], record_header, refl, Appends-nil out)
 
   -- the text of a record, cut within the line of a tick
   cut : (t : ℕ) (some rest : List ℕ) → t < length r.drive → row_line (row_at b r t) ≡ some ++ rest →

@@ -38,7 +38,6 @@ pub record WritesRecord {T : Type 0} (rows : List Row) (out now : ShownSink) (wa
   pub stopped : OnErr result (IsStopped rows out now was is)
   pub cause : IsErrOf result Put → Rose out.faults now.faults
   pub memory : IsErrOf result Memory → now.faults ≡ out.faults
-  -- Over a sure output memory runs out only before the header: nothing is written, and no tick is made.
-  pub unwritten : IsTrue out.sure → IsErrOf result Memory → now ≡ out
-  pub no_tick : IsTrue out.sure → IsErrOf result Memory → is ≡ was
+  -- Over a sure output memory never runs out.
+  pub sure : IsTrue out.sure → ¬ IsErrOf result Memory
   pub stays_sure : now.sure ≡ out.sure

@@ -1,7 +1,6 @@
 // The record of a run, written as its ticks are made.
-ghost use Rattle.std.specs.Prelude.{◌≡◌, ◌≤◌, reverse, vec_capacity, OnOk, OnErr, IsErrOf, IsTrue};
+ghost use Rattle.std.specs.Prelude.{◌≡◌, reverse, OnOk, OnErr, IsErrOf, IsTrue};
 ghost use Rattle.eg_base.specs.Outside.{Rose, Appends, AppendsPrefix};
-ghost use Rattle.eg_record.specs.declared.row_line.TheConstants.{ROW_ROOM};
 ghost use Rattle.eg_record.specs.Texts.{row_line};
 ghost use Rattle.eg_model.specs.Rows.{record_rows};
 ghost use Rattle.eg_campaign.specs.Plays.{IsPlayable, run_with, rows_in_time};
@@ -14,10 +13,9 @@ use eg_base::{PutRefusal, Sink};
 use eg_diesel::DieselEngine;
 use eg_plan::EngineKind;
 use eg_plant::GasolineEngine;
-use eg_record::{ROW_ROOM, Row, push_row, record_header};
+use eg_record::{ROW_ROOM, Row, put_line, record_header};
 use eg_tick::{BenchedEngine, Ticks, bench_controller, bench_row};
 use eg_values::Calibration;
-use std::alloc::Global;
 
 /// Why the writing of a record was stopped (docs/CONCEPT.md, "The record of a run").
 #[derive(Clone, Copy)]
@@ -29,12 +27,10 @@ pub enum RecordStop {
 }
 
 /// Plays a run, and puts its record to an output: the header, and the line of each row as its tick is made
-/// (docs/FORMATS.md, "The record"; docs/CONCEPT.md, "The record of a run"). One buffer holds each line in
-/// turn, and its room is taken before the header is put: a row takes no memory of its own. No clause says
-/// that each line is one put: a test shows it. The ticks are counted in `steps`.
+/// (docs/FORMATS.md, "The record"; docs/CONCEPT.md, "The record of a run"). It takes no memory of its own. No
+/// clause says that each line is one put: a test shows it. The ticks are counted in `steps`.
 #[inline(never)]
 pub fn record_into<K: Sink>(
-    alloc: Global,
     calibration: &Calibration,
     input: &RunInput,
     out: &mut K,
@@ -45,20 +41,13 @@ pub fn record_into<K: Sink>(
         (K.shows out.old) (K.shows out.new) steps.old steps.new result }
 {
     match input.plan.engine {
-        EngineKind::Gasoline => record_on::<GasolineEngine, K>(
-            alloc,
-            calibration,
-            input,
-            out,
-            steps,
-        ),
-        EngineKind::Diesel => record_on::<DieselEngine, K>(alloc, calibration, input, out, steps),
+        EngineKind::Gasoline => record_on::<GasolineEngine, K>(calibration, input, out, steps),
+        EngineKind::Diesel => record_on::<DieselEngine, K>(calibration, input, out, steps),
     }
 }
 
 /// Does what `record_into` does, with an engine of this type, whichever the run names.
 fn record_on<E: BenchedEngine, K: Sink>(
-    alloc: Global,
     calibration: &Calibration,
     input: &RunInput,
     out: &mut K,
@@ -72,9 +61,7 @@ fn record_on<E: BenchedEngine, K: Sink>(
     count_none(steps);
     let (image, drive) = (input.image.as_slice(), input.drive.as_slice());
     let (plan, fault) = (&input.plan.slices, input.plan.fault.as_ref());
-    let Ok(mut line) = Vec::with_capacity(alloc, ROW_ROOM) else {
-        return Err(RecordStop::Memory);
-    };
+    let mut line = [0; ROW_ROOM];
     put_whole(record_header().as_bytes(), out)?;
     let mut controller = bench_controller::<E>(calibration, image, fault);
     for tick in 0..drive.len() {
@@ -84,24 +71,18 @@ fn record_on<E: BenchedEngine, K: Sink>(
     Ok(())
 }
 
-/// Puts the line of a row. The line is made in this buffer, whatever it held before. Over a sure output
-/// nothing takes memory where the buffer has room for it.
-fn put_row<K: Sink>(line: &mut Vec<u8>, row: &Row, out: &mut K) -> Result<(), RecordStop>
+/// Puts the line of a row. The line is made in this array, whatever it held before.
+fn put_row<K: Sink>(line: &mut [u8; ROW_ROOM], row: &Row, out: &mut K) -> Result<(), RecordStop>
     ensures ok { OnOk result (Appends (K.shows out.old) (K.shows out.new) (row_line row.now)) }
     ensures prefix { OnErr result (AppendsPrefix (K.shows out.old) (K.shows out.new) (row_line row.now)) }
     ensures no_fault { OnOk result ((K.shows out.new).faults ≡ (K.shows out.old).faults) }
     ensures cause { IsErrOf result Put → Rose (K.shows out.old).faults (K.shows out.new).faults }
     ensures memory { IsErrOf result Memory → (K.shows out.new).faults ≡ (K.shows out.old).faults }
-    ensures sure { IsTrue (K.shows out.old).sure → ROW_ROOM ≤ vec_capacity line.old
-        → ¬ IsErrOf result Memory }
-    ensures keeps_room { vec_capacity line.old ≤ vec_capacity line.new }
+    ensures sure { IsTrue (K.shows out.old).sure → ¬ IsErrOf result Memory }
     ensures stays_sure { (K.shows out.new).sure ≡ (K.shows out.old).sure }
 {
-    line.clear();
-    let Ok(()) = push_row(line, row) else {
-        return Err(RecordStop::Memory);
-    };
-    put_whole(line, out)
+    let start = put_line(row, line);
+    put_whole(&line[start..], out)
 }
 
 /// Puts these bytes in one piece.

@@ -66,7 +66,6 @@ fn put_report<K: Sink>(
 /// Plays one run of a campaign, and puts its record as its ticks are made (docs/FORMATS.md, "The record").
 /// The ticks are counted in `steps`.
 pub fn put_record<K: Sink>(
-    alloc: Global,
     calibration: &Calibration,
     input: &RunInput,
     out: &mut K,
@@ -78,7 +77,7 @@ pub fn put_record<K: Sink>(
 {
     // Called for its clause alone: the calibration is an accepted one.
     let _rules = calibration.rules();
-    match record_into(alloc, calibration, input, out, steps) {
+    match record_into(calibration, input, out, steps) {
         Ok(()) => Outcome::Done,
         Err(RecordStop::Put) => Outcome::WriteFault,
         Err(RecordStop::Memory) => Outcome::Memory,

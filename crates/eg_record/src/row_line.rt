@@ -57,9 +57,9 @@ pub fn row_text(alloc: Global, row: &Row) -> Result<String, NoMemory>
     }
 }
 
-/// Puts the line of a row to the end of an array, and tells where it starts. Columns are put from the last to
-/// the first, since the digits of a number are found so.
-fn put_line(row: &Row, line: &mut [u8; ROW_ROOM]) -> usize
+/// Puts the line of a row, with its LF, to the end of an array, and tells where it starts (docs/FORMATS.md,
+/// "The record"). Columns are put from the last to the first, since the digits of a number are found so.
+pub fn put_line(row: &Row, line: &mut [u8; ROW_ROOM]) -> usize
     ensures put { drop result line.new ≡ row_line row.now }
     ensures ascii { IsAscii (numbers_text (row_numbers row.now)) }
     ensures start { result ≤ ROW_ROOM }

@@ -1,15 +1,11 @@
-use Rattle.std.proofs.Common.{rules, ◌≡◌, ◌∙◌, refl, sym, ap, subst, ◌<◌, length, Err, arith}
-use Rattle.std.specs.Prelude.{IsTrue, IsErrOf}
-use Rattle.std.proofs.lemmas.Result.{err_from_is_err_and}
+use Rattle.std.proofs.Common.{rules, ◌≡◌, ◌∙◌, refl, sym, subst, ◌<◌, length, arith}
 use Rattle.eg_model.specs.Bench.{Run, drive_at}
 use Rattle.eg_tick.specs.Run.{IsAt}
 use Rattle.eg_base.proofs.ResultLemmas.{at_err}
 use Rattle.eg_tick.proofs.RunLemmas.{drive-at}
 use Rattle.eg_campaign.specs.Plays.{run_with}
 use Rattle.eg_campaign.proofs.PlayLemmas.{same_run}
-use Rattle.eg_campaign.proofs.RecordLemmas.{has_header, has_more, all_written, all_counted, stopped_before_header, stopped_at_header, stopped_at_line}
-use Rattle.eg_campaign.specs.declared.recording.RecordStop.TheVariants.{Memory}
-use Rattle.eg_campaign.proofs.recording.record_on.Given.{Over}
+use Rattle.eg_campaign.proofs.RecordLemmas.{has_header, has_more, all_written, all_counted, stopped_at_header, stopped_at_line}
 use Rattle.eg_campaign.proofs.recording.record_on.Goals as goal
 
 pub returns-in_err-put_whole : goal.returns-in_err-put_whole
@@ -26,24 +22,9 @@ returns-in_err-put_whole g c =
           (c.as_bytes.ensures.value ∙ c.record_header.ensures) c.in_err-put_whole.ensures.prefix c.count_none.ensures);
       cause = search rules;
       memory = search rules;
-      unwritten = search rules;
-      no_tick = search rules;
+      sure = search rules;
       stays_sure = search rules;
     }
-
-pub returns-in_default : goal.returns-in_default
-returns-in_default g c = record {
-  whole = tt;
-  no_fault = tt;
-  counted = tt;
-  stopped = stopped_before_header g.E.BenchedEngine.bench (run_with c.args.calibration.now c.args.input.now).run
-      (g.K.Sink.shows c.args.out.now) c.args.steps.now c.count_none.ensures;
-  cause = search rules;
-  memory = λ is. refl;
-  unwritten = λ sure is. refl;
-  no_tick = λ sure is. refl;
-  stays_sure = refl;
-}
 
 pub loop-tick-init : goal.loop-tick-init
 loop-tick-init g c =
@@ -52,7 +33,6 @@ loop-tick-init g c =
     record {
       ticks = c.bench_controller-controller.ensures.ticks;
       sure = c.bench_controller-controller.ensures.sure;
-      room = omega (arith, c.in-Ok.ensures.exact);
       at = subst (λ (r : Run). IsAt bench g.E.BenchedEngine.come_to r 0 c.bench_controller-controller.result)
           (same_run _ _ _ _ _ _ _ _ _ _ refl c.as_slice-image.ensures c.as_ref-fault.ensures.value refl refl)
           (c.bench_controller-controller.ensures.at c.args.input.now.plan.slices c.args.input.now.drive);
@@ -61,14 +41,6 @@ loop-tick-init g c =
           (c.as_bytes.ensures.value ∙ c.record_header.ensures) c.in_ok-put_whole.ensures.ok c.in_ok-put_whole.ensures.no_fault
           c.in_ok-put_whole.ensures.stays_sure c.count_none.ensures;
     }
-
--- a row takes no memory over a sure output, since the buffer has room for its line
-has_room : (g : Over) (c : goal.After-drop-line-in_err-put_row g) → IsTrue (g.K.Sink.shows c.args.out.now).sure →
-    IsErrOf c.from_residual-in_err-put_row.result Memory → ⊥
-has_room g c sure is =
-    let (refusal, told, same) = err_from_is_err_and c.from_residual-in_err-put_row.result c.from_residual-in_err-put_row.ensures.1 in
-    c.in_err-put_row.ensures.sure (subst IsTrue (sym c.loop-tick.invariant.written.sure) sure) c.loop-tick.invariant.room
-    (ap (λ e. Err e) (sym same) ∙ sym told ∙ is)
 
 pub returns-in_err-put_row : goal.returns-in_err-put_row
 returns-in_err-put_row g c =
@@ -88,8 +60,7 @@ returns-in_err-put_row g c =
           c.loop-tick.invariant.written c.in_err-put_row.ensures.prefix c.bench_row-row.ensures.count c.bench_row-row.ensures.weight);
       cause = search rules;
       memory = search rules;
-      unwritten = λ sure is. absurd (has_room g c sure is);
-      no_tick = λ sure is. absurd (has_room g c sure is);
+      sure = search rules;
       stays_sure = search rules;
     }
 
@@ -103,7 +74,6 @@ loop-tick-preserved g c =
     record {
       ticks = c.bench_row-row.ensures.ticks;
       sure = c.bench_row-row.ensures.stays_sure;
-      room = omega (arith, c.loop-tick.invariant.room, c.put_row.ensures.keeps_room);
       at = c.bench_row-row.ensures.at r refl drive c.loop-tick.invariant.at;
       written = has_more bench r c.loop-tick.tick (shows c.args.out.now) (shows c.loop-tick.out)
           (shows c.put_row.new.out) c.args.steps.now c.loop-tick.steps c.bench_row-row.new.steps
@@ -128,7 +98,6 @@ returns g c =
       stopped = tt;
       cause = search rules;
       memory = search rules;
-      unwritten = search rules;
-      no_tick = search rules;
+      sure = search rules;
       stays_sure = c.loop-tick.invariant.written.sure;
     }
