@@ -1,5 +1,5 @@
--- How the classes of faults are spelt, where they are read and where they are written: each of the fourteen
--- has a name, and own keys under which its numbers stand. And with which numbers a sweep plays each.
+-- How the classes of faults are spelt, where they are read and where they are written: each has a name, and
+-- own keys under which its numbers stand. And with which numbers a sweep plays each.
 use Rattle.std.specs.Prelude.{◌≡◌, ℕ, ℤ, pos, Bool, false, List, [], ◌∷◌, ◌++◌, map, codes, decimal, bytes_eq, Option, Some, if◌then◌else◌}
 use Rattle.std.specs.Fmt.{signed_decimal}
 use Rattle.std.specs.List.{concat, find}

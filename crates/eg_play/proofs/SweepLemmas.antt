@@ -9,6 +9,7 @@ use Rattle.std.proofs.lemmas.List.Elements.{All-map, All-weaker}
 use Rattle.eg_num.specs.Drive.{DriveRow, IsDrive}
 use Rattle.eg_answer.specs.Times.{reaction_of}
 use Rattle.eg_fault.specs.declared.class.Fault.{Fault}
+use Rattle.eg_fault.specs.declared.class_name.TheConstants.{CLASSES}
 use Rattle.eg_fault.specs.Faults.{IsValid, IsListed, IsNoneOrValid}
 use Rattle.eg_values.specs.Calibration.{CalibrationParts, IsAccepted}
 use Rattle.eg_model.specs.Records.{IsRun}
@@ -64,7 +65,7 @@ all-playable input faults playable valid = All-map IsPlayable (λ (fault : Fault
     (λ fault is. record { some = playable.some; most = playable.most; drive = playable.drive; image = playable.image; fault = is }) faults valid)
 
 -- there are two or more of them: onset 0 is in each grid
-pub are_more : (ticks step : ℕ) → 1 ≤ ticks → 1 ≤ step → 2 ≤ 14 * onset_count ticks step
+pub are_more : (ticks step : ℕ) → 1 ≤ ticks → 1 ≤ step → 2 ≤ CLASSES * onset_count ticks step
 unfolding onsets
 are_more ticks step some least =
     let none : 0 * step ≡ 0 = omega arith in

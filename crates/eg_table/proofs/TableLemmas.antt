@@ -8,6 +8,7 @@ use Rattle.std.proofs.lemmas.List.Sums.{sum_by-cons, sum-map, length-filter, cou
 use Rattle.eg_fault.specs.declared.class.Class.{Class}
 use Rattle.eg_fault.specs.declared.class.Class.TheVariants.{Script}
 use Rattle.eg_fault.specs.declared.class.Fault.{Fault}
+use Rattle.eg_fault.specs.declared.class_name.TheConstants.{CLASSES}
 use Rattle.eg_fault.specs.declared.class_name.ClassName.{ClassName}
 use Rattle.eg_fault.specs.declared.class_name.ClassName.TheVariants as name
 use Rattle.eg_fault.specs.Names.{name_of, class_index, classes}
@@ -80,10 +81,10 @@ rows-set rows place fault runs facts row are is row_is = ap₂ (λ rows place. s
     ∙ ap (set (class_rows runs) (class_index (name_of fault.class))) row_is ∙ sym (rows-more runs fault facts)
 
 -- the rows of no runs
-pub rows-none : (row : SweepRow) → row ≡ row_of [] → replicate 14 row ≡ class_rows []
-rows-none row is = ap (replicate 14) is ∙ none
+pub rows-none : (row : SweepRow) → row ≡ row_of [] → replicate CLASSES row ≡ class_rows []
+rows-none row is = ap (replicate CLASSES) is ∙ none
   where
-    none : replicate 14 (row_of []) ≡ class_rows []
+    none : replicate CLASSES (row_of []) ≡ class_rows []
     none = unfold class_rows facts_under in refl
 
 -- ---- sums ----

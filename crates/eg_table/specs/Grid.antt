@@ -1,5 +1,5 @@
--- A sweep has a fault of each of fourteen classes at each multiple of its step below the run's ticks; more
--- than 1,000 runs or 1,000,000 ticks are too many.
+-- A sweep has a fault of each class at each multiple of its step below the run's ticks; more than 1,000
+-- runs or 1,000,000 ticks are too many.
 use Rattle.std.specs.Prelude.{ℕ, ◌*◌, Bool, ◌||◌, nat_lt, List, map}
 use Rattle.std.specs.List.{flat_map, range_with_len}
 use Rattle.std.specs.Int.{div_ceil}
@@ -8,7 +8,7 @@ use Rattle.eg_fault.specs.declared.class.Fault.{Fault}
 use Rattle.eg_fault.specs.declared.class_name.TheConstants.{CLASSES}
 use Rattle.eg_fault.specs.Names.{classes, swept}
 
--- the fourteen classes in their order, each with the numbers that it has in a sweep
+-- the classes in their order, each with the numbers that it has in a sweep
 unfoldable pub swept_classes : List Class
 swept_classes = map swept classes
 

@@ -41,7 +41,7 @@ row_of runs = record {
 
 -- ---- the table ----
 
--- the rows of the fourteen classes
+-- the rows of the classes
 unfoldable pub class_rows : List (Fault × Facts) → List SweepRow
 class_rows runs = map (λ class. row_of (facts_under class runs)) classes
 
@@ -49,6 +49,6 @@ class_rows runs = map (λ class. row_of (facts_under class runs)) classes
 unfoldable pub table_of : List Fault → List Facts → List SweepRow
 table_of faults facts = class_rows (zip faults facts)
 
--- the greatest reaction under listed faults: that of the thirteen rows before the one of lapses
+-- the greatest reaction under listed faults: that of the rows before the one of lapses
 unfoldable pub greatest_listed : List SweepRow → Option ℕ
 greatest_listed rows = greatest_number (filter_map (λ row. row.reaction) (take (class_index Lapse) rows))

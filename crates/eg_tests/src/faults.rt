@@ -2,6 +2,7 @@
 use crate::calls::{Failing, NOTHING, Shown, call};
 use eg_app::{Outcome, Refusal, Role};
 use eg_input::TraceFault;
+use std::alloc::Global;
 use std::test::Fail;
 
 /// The files that a call on both runs of a campaign reads, in their order.
@@ -69,27 +70,21 @@ fn the_read_that_failed_is_told(rt: HostRuntime) -> Result<(), Fail> {
 /// The words of a call that writes a record of four ticks, a line as each of them is made.
 const RECORD: &str = "record c.toml a";
 
-/// Words, and how many bytes stand where the put of a number fails: the lines before, and half of the next.
-const PUTS: [(&str, &[(u32, usize)]); 13] = [
-    ("check in.csv", &[(0, 2), (1, 5)]),
-    ("bound", &[(0, 6), (1, 16), (2, 21)]),
-    ("limits", &[(0, 6), (2, 26), (7, 76), (8, 84), (9, 88)]),
-    (
-        "coverage",
-        &[(0, 21), (1, 87), (15, 1163), (28, 1923), (29, 1953)],
-    ),
-    ("answers cal.toml", &[(0, 7), (1, 22), (2, 30)]),
-    ("run c.toml", &[(0, 29), (1, 88), (2, 131), (3, 144)]),
-    ("table c.toml", &[(0, 64), (1, 142), (2, 171), (3, 186)]),
-    ("margins c.toml", &[(0, 31), (1, 73), (2, 96), (3, 109)]),
-    (RECORD, &[(0, 69), (1, 164), (3, 269), (4, 324), (5, 352)]),
-    (
-        "sweep c.toml a 4",
-        &[(0, 56), (3, 392), (13, 1529), (14, 1596), (15, 1608)],
-    ),
-    ("asm loop.asm", &[(0, 2), (1, 7), (2, 10)]),
-    ("dis probe.hex", &[(0, 5), (1, 15), (11, 105)]),
-    ("soak 1 1", &[(0, 3), (3, 27), (11, 94), (12, 99)]),
+/// Words of calls that put their output line by line.
+const LINES: [&str; 13] = [
+    "check in.csv",
+    "bound",
+    "limits",
+    "coverage",
+    "answers cal.toml",
+    "run c.toml",
+    "table c.toml",
+    "margins c.toml",
+    RECORD,
+    "sweep c.toml a 4",
+    "asm loop.asm",
+    "dis probe.hex",
+    "soak 1 1",
 ];
 
 /// How many ticks a call has made whose put of this number failed: those of a record are made one by one
@@ -103,36 +98,52 @@ fn ticks_at(line: &str, number: u32, whole: &Shown) -> u64 {
     }
 }
 
-/// Whether a call has shown the first `length` bytes of what the whole call shows, and made `ticks` ticks.
-fn is_cut(whole: &Shown, shown: &Shown, length: usize, ticks: u64) -> bool {
+/// Whether a call with these words whose put of this number fails shows the first `length` bytes of what the
+/// whole call shows, and has made as many ticks as it may.
+fn is_cut(
+    alloc: Global,
+    line: &str,
+    number: u32,
+    length: usize,
+    whole: &Shown,
+) -> Result<bool, Fail> {
+    let failing = Failing {
+        put: Some(number),
+        ..NOTHING
+    };
+    let shown = call(alloc, line, failing)?;
     let wanted = if length == whole.out.bytes().len() {
         Outcome::Done
     } else {
         Outcome::WriteFault
     };
-    shown.outcome == wanted
-        && shown.out.bytes().len() == length
-        && whole.out.bytes().starts_with(shown.out.bytes())
-        && shown.steps.count() == ticks
+    Ok(
+        shown.outcome == wanted
+            && shown.out.bytes().len() == length
+            && whole.out.bytes().starts_with(shown.out.bytes())
+            && shown.steps.count() == ticks_at(line, number, whole),
+    )
 }
 
-/// The last of these numbers is that of a put that never comes.
+/// A put that fails leaves the lines before it, and half of its own. Behind the last line no put comes.
 #[test]
 fn each_put_is_one_whole_line(rt: HostRuntime) -> Result<(), Fail> {
-    for (line, puts) in PUTS {
+    for line in LINES {
         let whole = call(rt.alloc(), line, NOTHING)?;
-        for (number, length) in puts {
-            let failing = Failing {
-                put: Some(*number),
-                ..NOTHING
-            };
-            let shown = call(rt.alloc(), line, failing)?;
-            let ticks = ticks_at(line, *number, &whole);
+        let (mut number, mut before) = (0u32, 0usize);
+        for text in whole.out.bytes().split_inclusive(|byte| *byte == b'\n') {
+            let length = before.saturating_add(text.len() / 2);
             assert!(rt;
-                is_cut(&whole, &shown, *length, ticks),
+                is_cut(rt.alloc(), line, number, length, &whole)?,
                 "{line}, put {number}"
             );
+            number = number.saturating_add(1);
+            before = before.saturating_add(text.len());
         }
+        assert!(rt;
+            is_cut(rt.alloc(), line, number, before, &whole)?,
+            "{line}, put {number}"
+        );
     }
     Ok(())
 }
