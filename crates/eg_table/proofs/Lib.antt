@@ -1,7 +1,6 @@
 pub mod CountLemmas
 pub mod ActingLemmas
 pub mod LawLemmas
-pub mod LineLemmas
 pub mod CommaLemmas
 mod Worked
 pub mod GridLemmas

@@ -9,21 +9,20 @@ use Rattle.eg_fault.specs.Names.{name_of, class_text, held, number_item, number_
 use Rattle.eg_record.specs.declared.run_facts.RunFacts.{RunFacts}
 use Rattle.eg_record.specs.declared.watch.Watch.TheVariants.{Pedal, Torque}
 use Rattle.eg_record.specs.Reactions.{is_settled, settled_by}
-use Rattle.eg_record.specs.Texts.{bit, trap_name, watch_name}
+use Rattle.eg_record.specs.Texts.{trap_name, watch_name}
 use Rattle.eg_word.specs.declared.registers.Trap.TheVariants as traps
 use Rattle.eg_table.specs.Acting.{acts_at, acts_within, has_acted}
 use Rattle.eg_record.specs.declared.margins.Margins.{Margins}
 use Rattle.eg_record.specs.Margins.{no_margins}
-use Rattle.eg_table.specs.Margins.{margins_line, pair_columns, surplus_column, weight_columns}
-use Rattle.eg_table.specs.Texts.{bit_column, class_column, class_columns, excess_columns, fault_columns, keys_column}
-use Rattle.eg_table.specs.Texts.{number_column, reaction_columns, settled_column, table_line, tick_columns, trap_columns, watch_columns}
+use Rattle.eg_table.specs.Margins.{margins_line, surplus_column, weight_columns}
+use Rattle.eg_table.specs.Texts.{class_columns, fault_columns, keys_column, number_column, number_columns}
+use Rattle.eg_table.specs.Texts.{table_line, trap_columns, watch_columns}
 
 -- every definition that these need
 unfoldable rows : ℕ
-unfolding has_effect acts_at acts_within has_acted is_left_out bit_column class_column class_columns excess_columns
-    fault_columns keys_column held items_text number_item number_items truth_item truth_items number_column reaction_columns
-    settled_column table_line watch_columns tick_columns trap_columns margins_line pair_columns surplus_column
-    weight_columns name_of class_text is_settled settled_by bit trap_name watch_name digits
+unfolding has_effect acts_at acts_within has_acted is_left_out class_columns fault_columns keys_column held
+    items_text number_item number_items truth_item truth_items number_column number_columns table_line watch_columns trap_columns
+    margins_line surplus_column weight_columns name_of class_text is_settled settled_by trap_name watch_name digits
 rows = 0
 
 -- ---- what has acted ----

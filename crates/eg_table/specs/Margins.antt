@@ -1,6 +1,7 @@
 -- `margins` writes a header and for each run a line with its fault, the greatest weights of six debouncers,
 -- and the surplus, which may be below 0; what isn't there is an empty column. Columns are parted by commas.
-use Rattle.std.specs.Prelude.{ℕ, ℤ, List, ◌++◌, codes, Option, Some, None}
+use Rattle.std.specs.Prelude.{ℕ, ℤ, List, [], ◌∷◌, ◌++◌, map, codes, Option, Some, None}
+use Rattle.std.specs.List.{concat}
 use Rattle.std.specs.Fmt.{signed_decimal}
 use Rattle.eg_fault.specs.declared.class.Fault.{Fault}
 use Rattle.eg_record.specs.declared.margins.Counters.{Counters}
@@ -11,16 +12,10 @@ use Rattle.eg_table.specs.Texts.{class_columns, number_column}
 unfoldable pub margins_header : List ℕ
 margins_header = codes "run,class,onset,pedal,plate,load,speed,torque,answers,surplus\n"
 
--- `pedal`, `plate`, `load` and `speed`
-unfoldable pub pair_columns : Counters → List ℕ
-pair_columns greatest =
-    number_column (Some greatest.pedal) ++ number_column (Some greatest.plate)
-    ++ number_column (Some greatest.load) ++ number_column (Some greatest.speed)
-
--- these, `torque` and `answers`
+-- from `pedal` to `answers`
 unfoldable pub weight_columns : Counters → List ℕ
-weight_columns greatest =
-    pair_columns greatest ++ number_column (Some greatest.torque) ++ number_column (Some greatest.answers)
+weight_columns greatest = concat (map (λ weight. number_column (Some weight)) (greatest.pedal ∷ greatest.plate
+    ∷ greatest.load ∷ greatest.speed ∷ greatest.torque ∷ greatest.answers ∷ []))
 
 -- `surplus`: a column with a signed number, or an empty one
 unfoldable pub surplus_column : Option ℤ → List ℕ

@@ -1,16 +1,15 @@
 -- `table` writes a header and for each run a line with its fault, first detection and cut, stages, confirmed
 -- excess, stretch and peak, reaction and trap; what isn't there is an empty column. Columns are parted by
 -- commas.
-use Rattle.std.specs.Prelude.{ℕ, Bool, List, ◌++◌, codes, decimal, Option, Some, None, option_map}
+use Rattle.std.specs.Prelude.{ℕ, List, [], ◌∷◌, ◌++◌, map, codes, decimal, Option, Some, None, option_map}
+use Rattle.std.specs.List.{concat}
 use Rattle.eg_word.specs.declared.registers.Trap.{Trap}
 use Rattle.eg_fault.specs.declared.class.Fault.{Fault}
 use Rattle.eg_fault.specs.Names.{name_of, class_text, keys_text}
-use Rattle.eg_record.specs.declared.facts.Facts.{Facts}
-use Rattle.eg_record.specs.declared.reactions.Reactions.{Reactions}
 use Rattle.eg_record.specs.declared.run_facts.RunFacts.{RunFacts}
 use Rattle.eg_record.specs.declared.watch.Watch.{Watch}
 use Rattle.eg_record.specs.Reactions.{is_settled}
-use Rattle.eg_record.specs.Texts.{bit, trap_name, watch_name}
+use Rattle.eg_record.specs.Texts.{digit, trap_name, watch_name}
 use Rattle.eg_table.specs.Acting.{has_acted}
 
 -- the line above the runs: the names of the columns
@@ -24,19 +23,10 @@ unfoldable pub number_column : Option ℕ → List ℕ
 number_column None = codes ","
 number_column (Some n) = codes "," ++ decimal n
 
--- a column with a truth value, or an empty one
-unfoldable pub bit_column : Option Bool → List ℕ
-bit_column None = codes ","
-bit_column (Some b) = codes "," ++ bit b
-
--- the class of a fault, as campaigns spell it
-unfoldable pub class_column : Option Fault → List ℕ
-class_column None = codes ",none"
-class_column (Some fault) = codes "," ++ class_text (name_of fault.class)
-
--- `class` and `onset`
+-- `class`, as campaigns spell it, and `onset`
 unfoldable pub class_columns : Option Fault → List ℕ
-class_columns fault = class_column fault ++ number_column (option_map (λ fault. fault.onset) fault)
+class_columns None = codes ",none,"
+class_columns (Some fault) = codes "," ++ class_text (name_of fault.class) ++ codes "," ++ decimal fault.onset
 
 -- its own keys with what they hold
 unfoldable pub keys_column : Option Fault → List ℕ
@@ -45,29 +35,20 @@ keys_column (Some fault) = codes "," ++ keys_text fault.class
 
 -- `class`, `onset`, `fault` and `acted`, in a run of `ticks` ticks
 unfoldable pub fault_columns : Option Fault → (ticks : ℕ) → List ℕ
-fault_columns fault ticks = class_columns fault ++ keys_column fault ++ bit_column (has_acted fault ticks)
+fault_columns fault ticks =
+    class_columns fault ++ keys_column fault ++ number_column (option_map digit (has_acted fault ticks))
 
 -- `first` and `first_at`, or `cut` and `cut_at`
 unfoldable pub watch_columns : Option (Watch × ℕ) → List ℕ
 watch_columns None = codes ",,"
 watch_columns (Some found) = codes "," ++ watch_name found.0 ++ codes "," ++ decimal found.1
 
--- `off_at`, `last_on` and `confirmed`
-unfoldable pub tick_columns : Facts → List ℕ
-tick_columns facts = number_column facts.off ++ number_column facts.last_on ++ number_column facts.confirmed
-
--- `stretch` and `peak`
-unfoldable pub excess_columns : Facts → List ℕ
-excess_columns facts = number_column (Some facts.stretch) ++ number_column (Some facts.peak)
-
--- whether the run is settled, where an excess is confirmed in some span
-unfoldable pub settled_column : (bound : ℕ) → Reactions → List ℕ
-settled_column bound reactions = bit_column (option_map (λ _. is_settled bound reactions) reactions.followed)
-
--- `reaction`, `settled` and `bound`, where the worst-case reaction is `bound`
-unfoldable pub reaction_columns : (bound : ℕ) → Reactions → List ℕ
-reaction_columns bound reactions =
-    number_column reactions.longest ++ settled_column bound reactions ++ number_column (Some bound)
+-- from `off_at` to `bound`, the worst-case reaction: whether the run is settled is told where an excess is
+-- confirmed in some span
+unfoldable pub number_columns : (bound : ℕ) → RunFacts → List ℕ
+number_columns bound told = concat (map number_column (told.facts.off ∷ told.facts.last_on ∷ told.facts.confirmed
+    ∷ Some told.facts.stretch ∷ Some told.facts.peak ∷ told.reactions.longest
+    ∷ option_map (λ _. digit (is_settled bound told.reactions)) told.reactions.followed ∷ Some bound ∷ []))
 
 -- `trap` and `trap_at`
 unfoldable pub trap_columns : Option (Trap × ℕ) → List ℕ
@@ -78,5 +59,4 @@ trap_columns (Some trap) = codes "," ++ trap_name trap.0 ++ codes "," ++ decimal
 unfoldable pub table_line : (name : List ℕ) → Option Fault → (bound : ℕ) → RunFacts → List ℕ
 table_line name fault bound told =
     name ++ fault_columns fault told.facts.ticks ++ watch_columns told.facts.first
-    ++ watch_columns told.facts.cut ++ tick_columns told.facts ++ excess_columns told.facts
-    ++ reaction_columns bound told.reactions ++ trap_columns told.trap ++ codes "\n"
+    ++ watch_columns told.facts.cut ++ number_columns bound told ++ trap_columns told.trap ++ codes "\n"

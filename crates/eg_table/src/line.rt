@@ -1,15 +1,15 @@
 // The text of a table, line by line.
-ghost use Rattle.std.specs.Prelude.{◌≡◌, ◌++◌, OnOk, string_bytes};
+ghost use Rattle.std.specs.Prelude.{◌≡◌, ◌++◌, OnOk, Some, string_bytes};
 ghost use Rattle.std.specs.Option.{option_copied};
-ghost use Rattle.eg_table.specs.Texts.{bit_column, class_column, class_columns, excess_columns, fault_columns, keys_column};
-ghost use Rattle.eg_table.specs.Texts.{number_column, reaction_columns, settled_column, table_header};
-ghost use Rattle.eg_table.specs.Texts.{table_line, tick_columns, trap_columns, watch_columns};
+ghost use Rattle.eg_table.specs.Texts.{class_columns, fault_columns, keys_column, number_column, number_columns, table_header};
+ghost use Rattle.eg_table.specs.Texts.{table_line, trap_columns, watch_columns};
 
 use crate::has_acted;
 use eg_fault::Fault;
-use eg_record::{Facts, Reactions, RunFacts, Watch, trap_name};
+use eg_record::{RunFacts, Watch, trap_name};
 use eg_word::Trap;
 use std::alloc::AllocError;
+use std::fmt;
 
 /// The line above the runs, with its LF (docs/FORMATS.md, "The rows of `table`").
 #[tactic(auto, unfolding(crate::specs::Texts::table_header))]
@@ -22,6 +22,7 @@ pub fn table_header() -> &'static str
 
 /// Appends the line of a run with this name, with its LF, to a text (docs/FORMATS.md, "The rows of
 /// `table`"). The worst-case reaction is `bound`, in ticks. It is refused where memory runs out.
+#[tactic(auto, unfolding(crate::specs::Texts::table_line))]
 pub fn push_table_line(
     text: &mut String,
     name: &str,
@@ -36,9 +37,7 @@ pub fn push_table_line(
     push_fault(text, fault, told.facts.ticks)?;
     push_watch(text, told.facts.first)?;
     push_watch(text, told.facts.cut)?;
-    push_ticks(text, &told.facts)?;
-    push_excess(text, &told.facts)?;
-    push_reactions(text, bound, &told.reactions)?;
+    push_numbers(text, bound, told)?;
     push_trap(text, told.trap)?;
     text.push_str("\n")
 }
@@ -51,10 +50,10 @@ fn push_fault(text: &mut String, fault: Option<&Fault>, ticks: u32) -> Result<()
 {
     push_class_and_onset(text, fault)?;
     push_own_keys(text, fault)?;
-    push_bit(text, has_acted(fault, ticks))
+    write!(text, "{}", Number(has_acted(fault, ticks).map(u32::from)))
 }
 
-/// Appends the class of a fault and its onset.
+/// Appends the class of a fault, as campaigns spell it, and its onset; or `none` and an empty column.
 #[tactic(auto, unfolding(crate::specs::Texts::class_columns))]
 pub(crate) fn push_class_and_onset(
     text: &mut String,
@@ -63,19 +62,9 @@ pub(crate) fn push_class_and_onset(
     ensures { OnOk result (string_bytes text.new
         ≡ string_bytes text.old ++ class_columns (option_copied fault.entry)) }
 {
-    push_class(text, fault)?;
-    push_number(text, fault.map(|fault| fault.onset))
-}
-
-/// Appends the class of a fault, as campaigns spell it, or `none`.
-#[tactic(auto, unfolding(crate::specs::Texts::class_column))]
-fn push_class(text: &mut String, fault: Option<&Fault>) -> Result<(), AllocError>
-    ensures { OnOk result (string_bytes text.new
-        ≡ string_bytes text.old ++ class_column (option_copied fault.entry)) }
-{
     match fault {
-        Some(fault) => write!(text, ",{}", fault.class.name().text()),
-        None => text.push_str(",none"),
+        Some(fault) => write!(text, ",{},{}", fault.class.name().text(), fault.onset),
+        None => text.push_str(",none,"),
     }
 }
 
@@ -103,46 +92,27 @@ fn push_watch(text: &mut String, found: Option<(Watch, u32)>) -> Result<(), Allo
     }
 }
 
-/// Appends when the stages are first off and last on, and when a true excess is first confirmed.
-#[tactic(auto, unfolding(crate::specs::Texts::tick_columns))]
-fn push_ticks(text: &mut String, facts: &Facts) -> Result<(), AllocError>
-    ensures { OnOk result (string_bytes text.new ≡ string_bytes text.old ++ tick_columns facts.now) }
-{
-    push_number(text, facts.off)?;
-    push_number(text, facts.last_on)?;
-    push_number(text, facts.confirmed)
-}
-
-/// Appends how long a true excess lasts, and how great it is.
-#[tactic(auto, unfolding(crate::specs::Texts::excess_columns))]
-fn push_excess(text: &mut String, facts: &Facts) -> Result<(), AllocError>
-    ensures { OnOk result (string_bytes text.new ≡ string_bytes text.old ++ excess_columns facts.now) }
-{
-    push_number(text, Some(facts.stretch))?;
-    push_number(text, Some(u32::from(facts.peak)))
-}
-
-/// Appends the longest reaction, whether the run is settled, and the worst-case reaction.
-#[tactic(auto, unfolding(crate::specs::Texts::reaction_columns))]
-fn push_reactions(text: &mut String, bound: u32, reactions: &Reactions) -> Result<(), AllocError>
+/// Appends the columns that are numbers, from `off_at` to `bound`.
+#[tactic(auto, unfolding(crate::specs::Texts::number_columns, crate::specs::Texts::number_column))]
+fn push_numbers(text: &mut String, bound: u32, told: &RunFacts) -> Result<(), AllocError>
     ensures { OnOk result (string_bytes text.new
-        ≡ string_bytes text.old ++ reaction_columns bound reactions.now) }
+        ≡ string_bytes text.old ++ number_columns bound told.now) }
 {
-    push_number(text, reactions.longest)?;
-    push_settled(text, bound, reactions)?;
-    push_number(text, Some(bound))
-}
-
-/// Appends whether the run is settled, where an excess is confirmed in some span.
-#[tactic(auto, unfolding(crate::specs::Texts::settled_column))]
-fn push_settled(text: &mut String, bound: u32, reactions: &Reactions) -> Result<(), AllocError>
-    ensures { OnOk result (string_bytes text.new
-        ≡ string_bytes text.old ++ settled_column bound reactions.now) }
-{
-    match reactions.followed {
-        Some(_) => push_bit(text, Some(reactions.is_settled(bound))),
-        None => push_bit(text, None),
-    }
+    let (facts, reactions) = (&told.facts, &told.reactions);
+    let settled = reactions
+        .followed
+        .map(|_| u32::from(reactions.is_settled(bound)));
+    write!(
+        text,
+        "{}{}{},{},{}{}{},{bound}",
+        Number(facts.off),
+        Number(facts.last_on),
+        Number(facts.confirmed),
+        facts.stretch,
+        facts.peak,
+        Number(reactions.longest),
+        Number(settled)
+    )
 }
 
 /// Appends the trap of level 1 and its tick.
@@ -156,25 +126,18 @@ fn push_trap(text: &mut String, trap: Option<(Trap, u32)>) -> Result<(), AllocEr
     }
 }
 
-/// Appends a comma and a number, or the comma alone.
-#[tactic(auto, unfolding(crate::specs::Texts::number_column))]
-pub(crate) fn push_number(text: &mut String, number: Option<u32>) -> Result<(), AllocError>
-    ensures { OnOk result (string_bytes text.new ≡ string_bytes text.old ++ number_column number) }
-{
-    match number {
-        Some(number) => write!(text, ",{number}"),
-        None => text.push_str(","),
-    }
-}
+/// A column with a number, or an empty one, behind a comma.
+#[derive(Clone, Copy)]
+pub(crate) struct Number(pub(crate) Option<u32>);
 
-/// Appends a comma and a truth value, as 1 or 0, or the comma alone.
-#[tactic(auto, unfolding(crate::specs::Texts::bit_column, eg_record::specs::Texts::bit))]
-fn push_bit(text: &mut String, value: Option<bool>) -> Result<(), AllocError>
-    ensures { OnOk result (string_bytes text.new ≡ string_bytes text.old ++ bit_column value) }
-{
-    text.push_str(match value {
-        Some(true) => ",1",
-        Some(false) => ",0",
-        None => ",",
-    })
+impl fmt::Display for Number {
+    ghost output = { λ column. Some (number_column column.0) };
+
+    #[tactic(auto, unfolding(crate::specs::Texts::number_column))]
+    fn fmt<W: fmt::Write>(&self, f: &mut fmt::Formatter<W>) -> fmt::Result {
+        match self.0 {
+            Some(number) => write!(f, ",{number}"),
+            None => f.write_str(","),
+        }
+    }
 }

@@ -1,9 +1,9 @@
 // The text of `margins`, line by line.
 ghost use Rattle.std.specs.Prelude.{◌≡◌, ◌++◌, OnOk, string_bytes};
 ghost use Rattle.std.specs.Option.{option_copied};
-ghost use Rattle.eg_table.specs.Margins.{margins_header, margins_line, pair_columns, surplus_column, weight_columns};
+ghost use Rattle.eg_table.specs.Margins.{margins_header, margins_line, surplus_column, weight_columns};
 
-use crate::line::{push_class_and_onset, push_number};
+use crate::line::push_class_and_onset;
 use eg_fault::Fault;
 use eg_record::{Counters, Margins};
 use std::alloc::AllocError;
@@ -18,6 +18,7 @@ pub fn margins_header() -> &'static str
 
 /// Appends the line of a run with this name, with its LF, to a text (docs/FORMATS.md, "The rows of
 /// `margins`"). It is refused where memory runs out.
+#[tactic(auto, unfolding(crate::specs::Margins::margins_line))]
 pub fn push_margins_line(
     text: &mut String,
     name: &str,
@@ -35,24 +36,19 @@ pub fn push_margins_line(
 }
 
 /// Appends the greatest weights of the six debouncers.
-#[tactic(auto, unfolding(crate::specs::Margins::weight_columns))]
+#[tactic(auto, unfolding(crate::specs::Margins::weight_columns, crate::specs::Texts::number_column))]
 fn push_weights(text: &mut String, greatest: &Counters) -> Result<(), AllocError>
     ensures { OnOk result (string_bytes text.new ≡ string_bytes text.old ++ weight_columns greatest.now) }
 {
-    push_pairs(text, greatest)?;
-    push_number(text, Some(u32::from(greatest.torque)))?;
-    push_number(text, Some(u32::from(greatest.answers)))
-}
-
-/// Appends the greatest weights of the debouncers of the pairs.
-#[tactic(auto, unfolding(crate::specs::Margins::pair_columns))]
-fn push_pairs(text: &mut String, greatest: &Counters) -> Result<(), AllocError>
-    ensures { OnOk result (string_bytes text.new ≡ string_bytes text.old ++ pair_columns greatest.now) }
-{
-    push_number(text, Some(u32::from(greatest.pedal)))?;
-    push_number(text, Some(u32::from(greatest.plate)))?;
-    push_number(text, Some(u32::from(greatest.load)))?;
-    push_number(text, Some(u32::from(greatest.speed)))
+    let Counters {
+        pedal,
+        plate,
+        load,
+        speed,
+        torque,
+        answers,
+    } = *greatest;
+    write!(text, ",{pedal},{plate},{load},{speed},{torque},{answers}")
 }
 
 /// Appends a comma and a signed number, or the comma alone.
