@@ -138,82 +138,57 @@ module _ (s : Setting) (x : Effects) (reads : Readings) (past : List Moment) whe
       others false true c = unfold fed_of check_step in kept-others w keeps
       others false false c = kept-others w keeps
 
-  -- the signal that module i writes
-  wrote : (part : Words → ℕ) (i : ℕ) (v w : Words) (before value told : ℕ) →
-      part v ≡ (if is_set w.trip then 0 else bit_xor value (x.disturbance i)) →
-      fed_of w ≡ fed_after s.cal.rules flip past
-      → part w ≡ (if flip && true then 0 else before) → (flip ≡ false → tripped past ≡ false → value ≡ told)
-      → part (if x.ran i then v else w) ≡ (if flip && true then 0 else signal x past i before told)
+  -- module i, which writes one signal alone, after those before it
+  moved : (change : Signals → ℕ → Signals) (part : Words → ℕ) (i k : ℕ) (v w : Words) (was value told : ℕ) →
+      signals_of v ≡ change (signals_of w) (part v) → change (signals_of w) (part w) ≡ signals_of w → fed_of v ≡ fed_of w →
+      part v ≡ (if is_set w.trip then 0 else bit_xor value (x.disturbance i)) → part w ≡ (if flip && true then 0 else was) →
+      (flip ≡ false → tripped past ≡ false → value ≡ told) →
+      change (seen_by flip before now i) (if flip && true then 0 else signal x past i was told) ≡ seen_by flip before now k →
+      Between i w → Between k (if x.ran i then v else w)
   unfolding signal fed_of fed_after
-  wrote part i v w before value told e others eo ev =
-      if-part part (x.ran i) v w ∙ ap (λ n. if x.ran i then n else part w) e
-      ∙ written-law flip (x.ran i) (tripped past) w.trip (part w) before value told
-      (x.disturbance i) (ap (λ f. f.trip) others) eo ev
+  moved change part i k v w was value told ev ew same e eo et is b = record {
+    signals = one_changed change part (x.ran i) v w ev ew b.signals (if-part part (x.ran i) v w ∙ ap (λ n. if x.ran i then n else part w) e
+        ∙ written-law flip (x.ran i) (tripped past) w.trip (part w) was value told (x.disturbance i) (ap (λ f. f.trip) b.others) eo et) ∙ is;
+    others = if-same fed_of (x.ran i) v w _ same b.others;
+  }
 
   -- module 1
   pub pedal-between : MirrorTrips past → (w : Words) (row : TestRow) → Between 1 w →
       Between 2 (if x.ran 1 then pedal_step reads row (x.disturbance 1) w else w)
   unfolding signals_of fed_of fed_after seen_by seen signals_at pedal_step written limp_after
-  pedal-between trips w row b =
-      let v : Words = pedal_step reads row (x.disturbance 1) w in
-      record {
-        signals = one_changed (λ g n. record g { pedal = n }) (λ u. u.pedal) (x.ran 1) v w refl refl b.signals
-            (wrote (λ u. u.pedal) 1 v w _ _ _ refl b.others (ap (λ g. g.pedal) b.signals)
-            (λ calm untripped. ap (used_pedal reads.pedal) (limits flip (mirror_found past) (tripped past)
-            (is_limited past) w.limp (ap (λ f. f.limp) b.others) trips calm untripped)));
-        others = if-same fed_of (x.ran 1) v w _ refl b.others;
-      }
+  pedal-between trips w row b = moved (λ g n. record g { pedal = n }) (λ u. u.pedal) 1 2 _ w _ _ _ refl refl refl refl
+      (ap (λ g. g.pedal) b.signals) (λ calm untripped. ap (used_pedal reads.pedal) (limits flip (mirror_found past)
+      (tripped past) (is_limited past) w.limp (ap (λ f. f.limp) b.others) trips calm untripped)) refl b
 
   -- module 2
   pub permitted-between : (w : Words) (row : TestRow) → Between 2 w →
       Between 3 (if x.ran 2 then permitted_step s.cal.rules reads row (x.disturbance 2) w else w)
   unfolding signals_of fed_of seen_by seen signals_at permitted_step written
-  permitted-between w row b =
-      let v : Words = permitted_step s.cal.rules reads row (x.disturbance 2) w in
-      record {
-        signals = one_changed (λ g n. record g { permitted = n }) (λ u. u.permitted) (x.ran 2) v w refl refl b.signals
-            (wrote (λ u. u.permitted) 2 v w _ _ _ refl b.others (ap (λ g. g.permitted) b.signals)
-            (λ calm untripped. ap₂ (λ from pedal. ramped s.cal.rules.fall from (permitted_torque s.cal.rules reads pedal))
-            (ap (λ g. g.permitted) b.signals ∙ unflipped flip before.permitted calm)
-            (ap (λ g. g.pedal) b.signals ∙ unflipped flip now.pedal calm)));
-        others = if-same fed_of (x.ran 2) v w _ refl b.others;
-      }
+  permitted-between w row b = moved (λ g n. record g { permitted = n }) (λ u. u.permitted) 2 3 _ w _ _ _ refl refl refl refl
+      (ap (λ g. g.permitted) b.signals)
+      (λ calm untripped. ap₂ (λ from pedal. ramped s.cal.rules.fall from (permitted_torque s.cal.rules reads pedal))
+      (ap (λ g. g.permitted) b.signals ∙ unflipped flip before.permitted calm)
+      (ap (λ g. g.pedal) b.signals ∙ unflipped flip now.pedal calm)) refl b
 
   -- module 3
   pub actual-between : (w : Words) (row : TestRow) → Between 3 w →
       Between 4 (if x.ran 3 then actual_step s.cal.rules reads row (x.disturbance 3) w else w)
   unfolding signals_of fed_of seen_by seen signals_at actual_step written
-  actual-between w row b =
-      let v : Words = actual_step s.cal.rules reads row (x.disturbance 3) w in
-      record {
-        signals = one_changed (λ g n. record g { actual = n }) (λ u. u.actual) (x.ran 3) v w refl refl b.signals
-            (wrote (λ u. u.actual) 3 v w _ _ _ refl b.others (ap (λ g. g.actual) b.signals) (λ calm untripped. refl));
-        others = if-same fed_of (x.ran 3) v w _ refl b.others;
-      }
+  actual-between w row b = moved (λ g n. record g { actual = n }) (λ u. u.actual) 3 4 _ w _ _ _ refl refl refl refl
+      (ap (λ g. g.actual) b.signals) (λ calm untripped. refl) refl b
 
   -- module 4
   pub excess-between : (w : Words) (row : TestRow) → Between 4 w →
       Between 5 (if x.ran 4 then excess_step s.cal.rules row (x.disturbance 4) w else w)
   unfolding signals_of fed_of seen_by seen signals_at excess_step written
-  excess-between w row b =
-      let v : Words = excess_step s.cal.rules row (x.disturbance 4) w in
-      record {
-        signals = one_changed (λ g n. record g { excess = n }) (λ u. u.excess) (x.ran 4) v w refl refl b.signals
-            (wrote (λ u. u.excess) 4 v w _ _ _ refl b.others (ap (λ g. g.excess) b.signals)
-            (λ calm untripped. ap₂ (excess_number s.cal.rules)
-            (ap (λ g. g.permitted) b.signals ∙ unflipped flip now.permitted calm)
-            (ap (λ g. g.actual) b.signals ∙ unflipped flip now.actual calm)));
-        others = if-same fed_of (x.ran 4) v w _ refl b.others;
-      }
+  excess-between w row b = moved (λ g n. record g { excess = n }) (λ u. u.excess) 4 5 _ w _ _ _ refl refl refl refl
+      (ap (λ g. g.excess) b.signals) (λ calm untripped. ap₂ (excess_number s.cal.rules)
+      (ap (λ g. g.permitted) b.signals ∙ unflipped flip now.permitted calm)
+      (ap (λ g. g.actual) b.signals ∙ unflipped flip now.actual calm)) refl b
 
   -- module 5
   pub pairs-between : (w : Words) (row : TestRow) → Between 5 w →
       Between 6 (if x.ran 5 then pairs_step s.cal.rules reads row (x.disturbance 5) w else w)
   unfolding signals_of fed_of seen_by seen signals_at pairs_step written
-  pairs-between w row b =
-      let v : Words = pairs_step s.cal.rules reads row (x.disturbance 5) w in
-      record {
-        signals = one_changed (λ g n. record g { pairs = n }) (λ u. u.pairs) (x.ran 5) v w refl refl b.signals
-            (wrote (λ u. u.pairs) 5 v w _ _ _ refl b.others (ap (λ g. g.pairs) b.signals) (λ calm untripped. refl));
-        others = if-same fed_of (x.ran 5) v w _ refl b.others;
-      }
+  pairs-between w row b = moved (λ g n. record g { pairs = n }) (λ u. u.pairs) 5 6 _ w _ _ _ refl refl refl refl
+      (ap (λ g. g.pairs) b.signals) (λ calm untripped. refl) refl b

@@ -44,14 +44,7 @@ with_operand-total e (operand.Register weight) (Register n) fits = let most : n 
 with_operand-total e (operand.Number most) (Number n) fits = omega arith
 with_operand-total e (operand.Target reach) (Name name) fits = omega arith
 with_operand-total e (operand.Target reach) (Distance d) fits = omega arith
-with_operand-total e (operand.Register weight) (Number n) fits = absurd fits
-with_operand-total e (operand.Register weight) (Name name) fits = absurd fits
-with_operand-total e (operand.Register weight) (Distance d) fits = absurd fits
-with_operand-total e (operand.Number most) (Register n) fits = absurd fits
-with_operand-total e (operand.Number most) (Name name) fits = absurd fits
-with_operand-total e (operand.Number most) (Distance d) fits = absurd fits
-with_operand-total e (operand.Target reach) (Register n) fits = absurd fits
-with_operand-total e (operand.Target reach) (Number n) fits = absurd fits
+with_operand-total e _ _ fits = absurd fits
 
 with_operands-total : (e : Encoded) (operands : List Operand) (values : List Value) → AllZip Fits operands values → total (with_operands e operands values) ≤ total e + mosts operands
 unfolding with_operands

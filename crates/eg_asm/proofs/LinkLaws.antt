@@ -80,12 +80,7 @@ unfolding field_of with_operand Fits
 plain labels address word (operand.Register weight) (Register n) other fits = record { n = n * weight; field = refl; kept = refl }
 plain labels address word (operand.Number most) (Number n) other fits = record { n = n; field = refl; kept = refl }
 plain labels address word (operand.Target reach) value other fits = absurd cc
-plain labels address word (operand.Register weight) (Number n) other fits = absurd fits
-plain labels address word (operand.Register weight) (Name name) other fits = absurd fits
-plain labels address word (operand.Register weight) (Distance d) other fits = absurd fits
-plain labels address word (operand.Number most) (Register n) other fits = absurd fits
-plain labels address word (operand.Number most) (Name name) other fits = absurd fits
-plain labels address word (operand.Number most) (Distance d) other fits = absurd fits
+plain labels address word _ _ other fits = absurd fits
 
 -- what a target adds that stands alone
 alone : (labels : Labels) (address word : ℕ) (o : Operand) (value : Value) → is_target o ≡ true → is_near o ≡ true → Fits o value

@@ -8,7 +8,7 @@ use Rattle.eg_word.specs.declared.instruction.Instruction.TheVariants as machine
 use Rattle.eg_asm.specs.declared.operand.Operand.{Operand}
 use Rattle.eg_asm.specs.declared.operand.Operand.TheVariants as operand
 use Rattle.eg_asm.specs.Forms.{Form, forms, form_named}
-use Rattle.eg_asm.specs.Grammar.{Value, Register, Number, Name, Distance, Instruction as instruction, Fits, IsItem}
+use Rattle.eg_asm.specs.Grammar.{Value, Register, Number, Instruction as instruction, Fits, IsItem}
 use Rattle.eg_asm.specs.Words.{Labels, complement_of, distance_to, added, field_of, fields_of, word_with, word_of}
 use Rattle.eg_asm.specs.Meanings.{Means, nop, ldi, ldx, mov, add, sub, and, or, xor, shr, mul, ld, st, jz, jlt, wait, jr}
 use Rattle.eg_asm.proofs.FormLemmas.{form_named-mnemonic}
@@ -34,14 +34,9 @@ by_shape [] P holds [] fit = holds
 by_shape [] P holds (value ∷ values) fit = absurd fit
 by_shape (o ∷ operands) P holds [] fit = absurd fit
 by_shape (operand.Register weight ∷ operands) P holds (Register n ∷ rest) fit = by_shape operands (λ rest. P (Register n ∷ rest)) (holds n) rest fit.1
-by_shape (operand.Register weight ∷ operands) P holds (Number n ∷ rest) fit = absurd fit.0
-by_shape (operand.Register weight ∷ operands) P holds (Name name ∷ rest) fit = absurd fit.0
-by_shape (operand.Register weight ∷ operands) P holds (Distance d ∷ rest) fit = absurd fit.0
-by_shape (operand.Number most ∷ operands) P holds (Register n ∷ rest) fit = absurd fit.0
 by_shape (operand.Number most ∷ operands) P holds (Number n ∷ rest) fit = by_shape operands (λ rest. P (Number n ∷ rest)) (holds n) rest fit.1
-by_shape (operand.Number most ∷ operands) P holds (Name name ∷ rest) fit = absurd fit.0
-by_shape (operand.Number most ∷ operands) P holds (Distance d ∷ rest) fit = absurd fit.0
 by_shape (operand.Target reach ∷ operands) P holds (target ∷ rest) fit = by_shape operands (λ rest. P (target ∷ rest)) (holds target) rest fit.1
+by_shape (_ ∷ operands) P holds (_ ∷ rest) fit = absurd fit.0
 
 -- ---- targets ----
 

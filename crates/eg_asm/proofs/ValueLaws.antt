@@ -88,14 +88,7 @@ value_of-written (operand.Number most) (Number n) fits =
     rw (numeral_in-numeral n, small) refl
 value_of-written (operand.Target reach) (Name name) fits = target_in-name name fits
 value_of-written (operand.Target reach) (Distance d) fits = target_in-distance d
-value_of-written (operand.Register weight) (Number n) fits = absurd fits
-value_of-written (operand.Register weight) (Name name) fits = absurd fits
-value_of-written (operand.Register weight) (Distance d) fits = absurd fits
-value_of-written (operand.Number most) (Register n) fits = absurd fits
-value_of-written (operand.Number most) (Name name) fits = absurd fits
-value_of-written (operand.Number most) (Distance d) fits = absurd fits
-value_of-written (operand.Target reach) (Register n) fits = absurd fits
-value_of-written (operand.Target reach) (Number n) fits = absurd fits
+value_of-written _ _ fits = absurd fits
 
 -- a value that is read fits, and the text is what is written of it
 pub value_of-back : (o : Operand) (text : List ℕ) (value : Value) → value_of o text ≡ Some value → Fits o value × (text ≡ text_of_value value)

@@ -5,14 +5,14 @@ use Rattle.std.specs.Ordering.{nat_cmp, is_eq, match_ordering}
 use Rattle.std.specs.Cmp.Lexicographic.{slice_cmp}
 use Rattle.std.proofs.lemmas.Map.Lookups.{exact_bytes}
 use Rattle.std.proofs.lemmas.List.Elements.{All-map}
-use Rattle.toml.specs.Data.{Data, string, integer, float, boolean, datetime, array, table, Items, no_items, item, Members, no_members, member, same_key, get_member, as_table, as_bool}
+use Rattle.toml.specs.Data.{Data, integer, Items, no_items, item, Members, no_members, member, same_key, get_member, as_table, as_bool}
 use Rattle.eg_toml.specs.Values.{table_at, number_in, ◌>>=◌}
 use Rattle.eg_toml.specs.Arrays.{count, append_read, all_read, one, items_in, numbers_in, rows_in}
 use Rattle.eg_toml.specs.Names.{all_names, is_among}
 use Rattle.eg_toml.specs.Refusals.{or_else, unless, unless_some}
 use Rattle.eg_toml.proofs.RefusalLemmas.{or-none, none-or, unless-ok}
 use Rattle.eg_toml.proofs.RangeLemmas.{bind-some}
-use Rattle.eg_toml.proofs.HeldLemmas.{unless_some-none, items_in-is, items-held, natural_in-pos}
+use Rattle.eg_toml.proofs.HeldLemmas.{unless_some-none, as_table-is, items_in-is, items-held, natural_in-pos}
 use Rattle.eg_torque.specs.declared.ramp.TheConstants.{NO_RAMP}
 use Rattle.eg_answer.specs.Answers.{expected_of}
 use Rattle.eg_answer.specs.declared.rules.Rules.{Rules}
@@ -69,15 +69,6 @@ names-same passes name change no_members = refl
 names-same passes name change (member k d ms) = ap (λ b. passes k && b) (names-same passes name change ms)
 
 -- ---- a question with another answer
-
-as_table-is : (d : Data) (ms : Members) → as_table d ≡ Some ms → d ≡ table ms
-as_table-is (table ts) ms e = let same : ts ≡ ms = cc in ap table same
-as_table-is (string s) ms e = absurd (cc)
-as_table-is (integer z) ms e = absurd (cc)
-as_table-is (float x) ms e = absurd (cc)
-as_table-is (boolean b) ms e = absurd (cc)
-as_table-is (datetime t) ms e = absurd (cc)
-as_table-is (array ds) ms e = absurd (cc)
 
 -- what stands under the other names of a question
 word-kept : (name : List ℕ) (change : Data → Data) → same_key (codes "answer") name ≡ false → (ms : Members)

@@ -3,7 +3,7 @@ use Rattle.std.proofs.Common.{◌≡◌, ◌↔◌, ℕ, suc, ℤ, pos, negsuc, 
 use Rattle.std.specs.Bool.{⊤}
 use Rattle.std.proofs.lemmas.Bool.{and_parts, le-leb, leb-true}
 use Rattle.std.proofs.lemmas.List.Elements.{All-nil, All-cons, All-head, All-tail}
-use Rattle.toml.specs.Data.{Data, string, integer, float, boolean, datetime, array, table, Members, Items, no_items, item, as_str, as_integer, as_bool, as_array, as_table}
+use Rattle.toml.specs.Data.{Data, string, integer, boolean, array, table, Members, Items, no_items, item, as_str, as_integer, as_bool, as_array, as_table}
 use Rattle.eg_toml.specs.Values.{natural_in, number_in, ◌>>=◌}
 use Rattle.eg_toml.specs.Arrays.{count, append_read, all_read, one, items_in, array_in, numbers_in}
 use Rattle.eg_toml.specs.Refusals.{unless_some}
@@ -46,48 +46,23 @@ kept {rule = rule} exact o usual h = subst rule (sym (ap (λ p. unwrap_or p usua
 
 as_str-is : (d : Data) (text : List ℕ) → as_str d ≡ Some text → d ≡ string text
 as_str-is (string s) text e = let same : s ≡ text = cc in ap string same
-as_str-is (integer z) text e = absurd (cc)
-as_str-is (float x) text e = absurd (cc)
-as_str-is (boolean b) text e = absurd (cc)
-as_str-is (datetime t) text e = absurd (cc)
-as_str-is (array ds) text e = absurd (cc)
-as_str-is (table ms) text e = absurd (cc)
+as_str-is _ text e = absurd (cc)
 
 as_integer-is : (d : Data) (z : ℤ) → as_integer d ≡ Some z → d ≡ integer z
 as_integer-is (integer y) z e = let same : y ≡ z = cc in ap integer same
-as_integer-is (string s) z e = absurd (cc)
-as_integer-is (float x) z e = absurd (cc)
-as_integer-is (boolean b) z e = absurd (cc)
-as_integer-is (datetime t) z e = absurd (cc)
-as_integer-is (array ds) z e = absurd (cc)
-as_integer-is (table ms) z e = absurd (cc)
+as_integer-is _ z e = absurd (cc)
 
 as_bool-is : (d : Data) (b : Bool) → as_bool d ≡ Some b → d ≡ boolean b
 as_bool-is (boolean a) b e = let same : a ≡ b = cc in ap boolean same
-as_bool-is (integer z) b e = absurd (cc)
-as_bool-is (string s) b e = absurd (cc)
-as_bool-is (float x) b e = absurd (cc)
-as_bool-is (datetime t) b e = absurd (cc)
-as_bool-is (array ds) b e = absurd (cc)
-as_bool-is (table ms) b e = absurd (cc)
+as_bool-is _ b e = absurd (cc)
 
 pub as_array-is : (d : Data) (ds : Items) → as_array d ≡ Some ds → d ≡ array ds
 as_array-is (array es) ds e = let same : es ≡ ds = cc in ap array same
-as_array-is (integer z) ds e = absurd (cc)
-as_array-is (string s) ds e = absurd (cc)
-as_array-is (float x) ds e = absurd (cc)
-as_array-is (boolean b) ds e = absurd (cc)
-as_array-is (datetime t) ds e = absurd (cc)
-as_array-is (table ms) ds e = absurd (cc)
+as_array-is _ ds e = absurd (cc)
 
 pub as_table-is : (d : Data) (ms : Members) → as_table d ≡ Some ms → d ≡ table ms
 as_table-is (table ns) ms e = let same : ns ≡ ms = cc in ap table same
-as_table-is (integer z) ms e = absurd (cc)
-as_table-is (string s) ms e = absurd (cc)
-as_table-is (float x) ms e = absurd (cc)
-as_table-is (boolean b) ms e = absurd (cc)
-as_table-is (datetime t) ms e = absurd (cc)
-as_table-is (array ds) ms e = absurd (cc)
+as_table-is _ ms e = absurd (cc)
 
 pub text-exact : IsExact as_str string (λ text. ⊤)
 text-exact = record { is = as_str-is; keeps = λ d x e. tt; reads = λ x h. refl }

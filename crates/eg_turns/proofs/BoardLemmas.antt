@@ -9,7 +9,7 @@ use Rattle.eg_guard.specs.declared.regions.Who.TheVariants.{Board}
 use Rattle.eg_guard.specs.Regions.{both, allows, access, region_of}
 use Rattle.eg_guard.specs.Memory.{AreWords, SameOutside}
 use Rattle.eg_guard.specs.declared.regions.Region.{Region}
-use Rattle.eg_guard.specs.declared.regions.Region.TheVariants.{Code, Data, InPorts, OutPorts, Results, Protected, Link, None as NoRegion}
+use Rattle.eg_guard.specs.declared.regions.Region.TheVariants.{Data, OutPorts}
 use Rattle.eg_guard.proofs.AccessLemmas.{code-is, data-is, data-span, in_ports-is, out_ports-is, out_ports-span, results-is, protected-is}
 use Rattle.eg_guard.proofs.WordsLemmas.{zeros_are_words}
 use Rattle.eg_word.specs.Memory.{is_level1_own}
@@ -122,12 +122,7 @@ own-words address = go (region_of address) refl
         ((1024 ≤ address) × (address < 2048)) ⊎ ((address ≡ 2064) ⊎ (address ≡ 2065))
     go Data is own = inl (data-span address is)
     go OutPorts is own = inr (out_ports-span address is)
-    go Code is own = absurd (none (unfold is_level1_own in own))
-    go InPorts is own = absurd (none (unfold is_level1_own in own))
-    go Results is own = absurd (none (unfold is_level1_own in own))
-    go Protected is own = absurd (none (unfold is_level1_own in own))
-    go Link is own = absurd (none (unfold is_level1_own in own))
-    go NoRegion is own = absurd (none (unfold is_level1_own in own))
+    go _ is own = absurd (none (unfold is_level1_own in own))
 
 module _ (old mid new : List ℕ) (words : IsWritten old mid 1024 (replicate 1024 0) 1024) (outs : IsWritten mid new 2064 (0 ∷ 0 ∷ []) 2) where
   cleared-at : (address : ℕ) → is_level1_own (region_of address) ≡ true → slice_index new address ≡ 0

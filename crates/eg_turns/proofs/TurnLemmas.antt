@@ -47,18 +47,6 @@ module _ {parts : Level2Parts} {x : Effects} {task : Task} {before : Level1Parts
     keeps = keeps_then a b d whole (Ok more) so_far.keeps (keeps_done b d step more turn.keeps);
   }
 
-  -- memory ran out in the turn behind them, or in the last slice
-  pub stops : {T : Type 0} {y : Effects} {turns : ℕ} {whole : Step} {now after : Level1Parts} {b d : ShownMemory} {e : NoMemory} (result : Result Step NoMemory)
-      → x ≡ y → SoFar parts x task turns whole before now a b → IsErr result → (let refused : Result T NoMemory = Err e in KeepsMemory b d refused)
-      → RunLevels parts y task before after a d result
-  stops {whole = whole} {b = b} {d = d} {e = e} result same so_far is keeps = record {
-    midway = λ w due midway. IfOk-from_err result _ is;
-    step = λ w due midway. IfOk-from_err result _ is;
-    nine = IfOk-from_err result _ is;
-    ready = IfOk-from_err result _ is;
-    keeps = keeps_then a b d whole result so_far.keeps (keeps_refused b d e result is keeps);
-  }
-
   -- the last slice is done
   pub ended : {T : Type 0} {y : Effects} {whole : Step} {now after : Level1Parts} {b d : ShownMemory} {made : T} {budget : ℕ} → x ≡ y → SoFar parts x task 8 whole before now a b
       → x.level1 ≡ true → length task.slices ≡ 9 → budget ≡ slice_index task.slices 8
