@@ -1,5 +1,5 @@
 // The run without a fault of a group, and runs under faults that go on from it.
-ghost use Rattle.std.specs.Prelude.{◌≡◌, ℕ, ◌+◌, ◌*◌, ◌%◌, ◌/◌, ◌^◌, ◌≤◌, ◌<◌, Bool, List, slice_index_or, false, None, length, reverse, IfOk, OnOk, OnErr, IsOk, IsTrue};
+ghost use Rattle.std.specs.Prelude.{◌≡◌, ℕ, ◌+◌, ◌*◌, ◌%◌, ◌/◌, ◌≤◌, ◌<◌, Bool, List, slice_index_or, false, None, length, reverse, IfOk, OnOk, IsTrue};
 ghost use Rattle.std.specs.Option.{option_copied};
 ghost use Rattle.eg_fault.specs.Faults.{IsNoneOrValid};
 ghost use Rattle.eg_values.specs.Calibration.{CalibrationParts};
@@ -18,13 +18,12 @@ use crate::counting::count_none;
 use crate::wanted::{Wanted, is_wanted};
 use eg_base::NoMemory;
 use eg_fault::Fault;
-use eg_guard::{FlatMemory, Guarded};
+use eg_guard::{CopyMemory, FlatMemory, Guarded};
 use eg_pages::PagedMemory;
 use eg_plant::CopyEngine;
 use eg_record::{MarginTally, RunFacts, Tally};
 use eg_tick::{
-    BenchedEngine, Controller, Ticks, bench_begin, bench_controller, bench_restart, bench_tick,
-    weigh,
+    BenchedEngine, Controller, Ticks, bench_controller, bench_restart, bench_row, weigh,
 };
 use eg_values::Calibration;
 use std::alloc::Global;
@@ -90,64 +89,41 @@ pub(crate) fn play_alone<E: BenchedEngine + CopyEngine, const WEIGHED: bool>(
     told_so_far(played)
 }
 
-/// Plays the run of an input without its fault, and keeps it at each hundredth tick that is wanted, but for
-/// the first: up to its onset a run under a fault is the run without one (docs/CONCEPT.md, "Faults"). The
-/// ticks are counted in `steps`. NoMemory is its one refusal. Where the run is `WEIGHED`, it tells how near
-/// it came to a cut.
+/// Plays the run of an input without its fault on this bench, and keeps it at each hundredth tick that is
+/// wanted, but for the first: up to its onset a run under a fault is the run without one (docs/CONCEPT.md,
+/// "Faults"). The ticks are counted in `steps`. NoMemory is its one refusal. Where the run is `WEIGHED`, it
+/// tells how near it came to a cut.
 #[inline(never)]
 pub(crate) fn share<E: BenchedEngine + CopyEngine, const WEIGHED: bool>(
     alloc: Global,
+    played: &mut Bench<E>,
     calibration: &Calibration,
     input: &RunInput,
     wanted: &Wanted,
     steps: &mut Ticks,
 ) -> Result<Shared<E>, NoMemory>
-    requires { IsPlayable input.now }
+    requires playable { IsPlayable input.now }
+    requires bench { played.old.controller.kept.cal ≡ calibration.now }
     ensures shared { IfOk result (IsSharedFor WEIGHED E.bench E.come_to calibration.now input.now) }
     ensures wanted { IfOk result (λ shared. shared.wanted ≡ wanted.now) }
     ensures counted { AreCounted
         (reverse (record_rows E.bench (run_with calibration.now (faultless input.now)).run))
         steps.old steps.new result }
+    ensures bench { OnOk result (played.new.controller.kept.cal ≡ calibration.now) }
 {
     // Called for its clause alone.
     count_none(steps);
-    let mut played = begin_paged::<E>(alloc, calibration, input)?;
+    let mut last = PagedMemory::new(alloc)?;
     let mut checkpoints = Vec::new(alloc);
+    begin(played, calibration, input, None);
     for tick in 0..input.drive.as_slice().len() {
-        keep(alloc, wanted, &mut checkpoints, &played, tick)?;
-        play_tick::<E, PagedMemory, WEIGHED>(&mut played, input, tick, steps)?;
+        keep(alloc, wanted, &mut checkpoints, &mut last, played, tick)?;
+        play_row::<E, WEIGHED>(played, input, tick, steps);
     }
     Ok(Shared {
         checkpoints,
         wanted: *wanted,
-        told: told_so_far(&played),
-    })
-}
-
-/// The run of an input without its fault, of which no tick was played, over pages.
-fn begin_paged<E: BenchedEngine + CopyEngine>(
-    alloc: Global,
-    calibration: &Calibration,
-    input: &RunInput,
-) -> Result<Checkpoint<E>, NoMemory>
-    requires { IsPlayable input.now }
-    ensures { (weighed : Bool) → IfOk result (HasPlayed weighed E.bench E.come_to
-        (run_with calibration.now (faultless input.now)).run 0) }
-{
-    let rules = calibration.rules();
-    let memory = PagedMemory::new(alloc)?;
-    let controller = bench_begin::<E, PagedMemory>(
-        calibration,
-        input.image.as_slice(),
-        None,
-        memory,
-    )?;
-    let tally = Tally::new(rules.threshold, rules.torque);
-    let margins = MarginTally::new();
-    Ok(Checkpoint {
-        controller,
-        tally,
-        margins,
+        told: told_so_far(played),
     })
 }
 
@@ -178,7 +154,8 @@ fn keep<E: BenchedEngine + CopyEngine>(
     alloc: Global,
     wanted: &Wanted,
     kept: &mut Vec<Option<Box<Checkpoint<E>>>>,
-    played: &Checkpoint<E>,
+    last: &mut PagedMemory,
+    played: &Bench<E>,
     tick: usize,
 ) -> Result<(), NoMemory>
     requires { played.now.controller.kept.fault ≡ None }
@@ -193,7 +170,7 @@ fn keep<E: BenchedEngine + CopyEngine>(
         return Ok(());
     }
     if is_wanted(wanted, tick / CHECKPOINT_TICKS) {
-        keep_copy(alloc, kept, played)
+        keep_copy(alloc, kept, last, played)
     } else {
         keep_none(kept)
     }
@@ -212,12 +189,14 @@ fn keep_none<E: BenchedEngine + CopyEngine>(
     Ok(())
 }
 
-/// Keeps what was played. It isn't inlined, so that its large locals are set to 0 at a hundredth tick alone.
+/// Keeps what was played. The pages of its memory that are the same as in the last copy are meant to be shared
+/// with that. It isn't inlined, so that its large locals are set to 0 at a hundredth tick alone.
 #[inline(never)]
 fn keep_copy<E: BenchedEngine + CopyEngine>(
     alloc: Global,
     kept: &mut Vec<Option<Box<Checkpoint<E>>>>,
-    played: &Checkpoint<E>,
+    last: &mut PagedMemory,
+    played: &Bench<E>,
 ) -> Result<(), NoMemory>
     requires { played.now.controller.kept.fault ≡ None }
     ensures { (weighed : Bool) (r : Run) (wanted : List Bool) (t : ℕ) → t % checkpoint_ticks ≡ 0 →
@@ -225,12 +204,13 @@ fn keep_copy<E: BenchedEngine + CopyEngine>(
         AreCheckpoints weighed E.bench E.come_to r wanted t kept.old.items →
         OnOk result (AreCheckpoints weighed E.bench E.come_to r wanted (t + 1) kept.new.items) }
 {
-    let controller = played.controller.branch(alloc, None)?;
+    *last = PagedMemory::like(alloc, played.controller.memory(), last)?;
+    let memory = last.copy(alloc)?;
     let (tally, margins) = (played.tally, played.margins);
     let one = Box::new(
         alloc,
         Played {
-            controller,
+            controller: played.controller.branch_over(memory, None),
             tally,
             margins,
         },
@@ -290,35 +270,6 @@ fn begin_from<E: BenchedEngine + CopyEngine, const WEIGHED: bool>(
         unreachable!("it is wanted")
     };
     *played = go_on(&**kept, Some(fault.copy()));
-}
-
-/// Plays the next tick of the run of an input. NoMemory never comes over a sure memory.
-#[inline(always)]
-fn play_tick<E: BenchedEngine + CopyEngine, M: Guarded + Drop, const WEIGHED: bool>(
-    played: &mut Played<E, M>,
-    input: &RunInput,
-    tick: usize,
-    steps: &mut Ticks,
-) -> Result<(), NoMemory>
-    requires playable { IsPlayable input.now }
-    requires within { tick < length input.now.drive }
-    requires run { (r : Run) × PlaysInput input.now r
-        × HasPlayed WEIGHED E.bench E.come_to r tick played.old }
-    ensures made { (r : Run) (from : ℕ) (was : TickCount) → PlaysInput input.now r →
-        HasMade WEIGHED E.bench E.come_to r from tick played.old was steps.old →
-        OnOk result (HasMade WEIGHED E.bench E.come_to r from (tick + 1) played.new was steps.new) }
-    // Where memory runs out the tick is counted, but no row is weighed.
-    ensures count { steps.new.count ≡ (steps.old.count + 1) % 2 ^ 64 }
-    ensures no_weight { OnErr result (steps.new.weights ≡ steps.old.weights) }
-    ensures sure { IsTrue played.old.controller.kept.memory.sure → IsOk result }
-    ensures stays_sure { played.new.controller.kept.memory.sure
-        ≡ played.old.controller.kept.memory.sure }
-{
-    let (plan, drive) = (&input.plan.slices, &input.drive.as_slice()[tick]);
-    let row = bench_tick(&mut played.controller, plan, drive, tick as u32, steps)?;
-    played.tally.feed(&row);
-    weigh::<E, M, WEIGHED>(&mut played.margins, &row, &played.controller);
-    Ok(())
 }
 
 /// Plays the run of an input of the group under this fault in place of its own: from the last hundredth tick
@@ -394,7 +345,7 @@ fn play_on<E: BenchedEngine + CopyEngine, const WEIGHED: bool>(
     }
 }
 
-/// Plays the next tick of the run of an input over a sure memory.
+/// Plays the next tick of the run of an input.
 #[inline(always)]
 fn play_row<E: BenchedEngine + CopyEngine, const WEIGHED: bool>(
     played: &mut Bench<E>,
@@ -412,8 +363,8 @@ fn play_row<E: BenchedEngine + CopyEngine, const WEIGHED: bool>(
         HasMade WEIGHED E.bench E.come_to r from (tick + 1) played.new was steps.new }
     ensures stays_sure { IsTrue played.new.controller.kept.memory.sure }
 {
-    match play_tick::<E, FlatMemory, WEIGHED>(played, input, tick, steps) {
-        Ok(()) => (),
-        Err(_) => unreachable!("a sure memory never runs out"),
-    }
+    let (plan, drive) = (&input.plan.slices, &input.drive.as_slice()[tick]);
+    let row = bench_row(&mut played.controller, plan, drive, tick as u32, steps);
+    played.tally.feed(&row);
+    weigh::<E, FlatMemory, WEIGHED>(&mut played.margins, &row, &played.controller);
 }

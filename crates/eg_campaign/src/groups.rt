@@ -177,7 +177,7 @@ fn play_group<E: BenchedEngine + CopyEngine, const WEIGHED: bool>(
     let Group { leaders, index } = group;
     let input = &inputs[index];
     let wanted = wanted_in(inputs, leaders, index);
-    let shared = share::<E, WEIGHED>(alloc, calibration, input, &wanted, steps)?;
+    let shared = share::<E, WEIGHED>(alloc, played, calibration, input, &wanted, steps)?;
     for i in 0..inputs.len() {
         if leaders[i] != index {
             continue;

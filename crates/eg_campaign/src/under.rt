@@ -65,7 +65,7 @@ fn facts_on<E: BenchedEngine + CopyEngine>(
     count_none(steps);
     let wanted = wanted_under(faults);
     let mut played = bench::<E>(calibration);
-    let shared = share::<E, false>(alloc, calibration, input, &wanted, steps)?;
+    let shared = share::<E, false>(alloc, &mut played, calibration, input, &wanted, steps)?;
     let mut facts = Vec::new(alloc);
     for fault in faults {
         let told = play_from::<E, false>(

@@ -49,6 +49,14 @@ impl FlatMemory {
         self.words = [0; WORDS as usize];
     }
 
+    /// The words, by their addresses.
+    pub fn words(&self) -> &[u16; WORDS as usize]
+        ensures words { result.now ≡ self.now }
+        ensures are_words { AreWords result.now }
+    {
+        &self.words
+    }
+
     /// A memory of these words. Made of the words of a memory of another kind, it is a copy of that memory.
     pub fn of_words(words: [u16; WORDS as usize]) -> FlatMemory
         ensures words { result ≡ words }

@@ -1,11 +1,13 @@
 -- The words of a memory in pages, and what a store to a page makes of them.
 use Rattle.std.proofs.Common.{◌≡◌, ◌∙◌, ◌⊎◌, inl, inr, sym, ap, ap₂, ℕ, zero, suc, ◌+◌, ◌-◌, ◌*◌, ◌^◌, ◌<◌, ◌≤◌, List, [], ◌∷◌, ◌++◌, take, drop, length, map, get_or, slice_index, slice_set, replicate, Result, Ok, Err, OnOk, OnErr, refl, arith}
-use Rattle.std.specs.List.{AllZip, AllByRecursion, concat}
-use Rattle.std.proofs.lemmas.List.{append-nil, map-set, get_or-map, length-append, length-drop, length-map, length-set, length-replicate, length-take-le, set-get_or, take_more}
+use Rattle.std.specs.List.{All, AllZip, AllByRecursion, concat}
+use Rattle.std.proofs.lemmas.List.{append-nil, map-set, get_or-map, length-append, length-drop, length-map, length-set, length-replicate, length-take-le, set-get_or, take_more, take_more_set}
+use Rattle.std.proofs.Math.Seq.{take-add}
 use Rattle.std.proofs.lemmas.List.Folds.{concat-append}
 use Rattle.std.proofs.lemmas.Slice.{take-put_mid}
 use borrow.Rule.Slice.PartMut.{put_mid}
 use Rattle.std.proofs.lemmas.List.Elements.{All-set, All-replicate, recursion_from_All}
+use Rattle.eg_guard.specs.Memory.{AreWords}
 use Rattle.eg_guard.proofs.WordsLemmas.{AreWords-set, zeros_are_words}
 use Rattle.eg_pages.specs.Pages.{IsPage, ArePages}
 use Rattle.eg_pages.proofs.JoinedLemmas.{HasLength, index-joined, set-joined, joined-replicate}
@@ -154,3 +156,29 @@ copied_next held pages other number start size words part are below starts sized
           ∙ ap₂ (λ n page. take n words ++ page) starts is ∙ ap (λ front. front ++ get_or (map held pages) number []) copied.copied
           ∙ concat-more (map held pages) number there;
     }
+
+-- ---- pages of given words ----
+
+-- Where the first of these pages have the first of the words.
+pub record Filled (words : List ℕ) (pages : List (List ℕ)) (number : ℕ) : Type 0 where
+  pub count : length pages ≡ 64
+  pub each : All IsPage pages
+  pub filled : concat (take number pages) ≡ take (number * 64) words
+
+pub filled_next : {X : Type 0} (held : X → List ℕ) (pages : List X) (next : X) (number start size : ℕ) (words part : List ℕ) → AreWords words
+    → number < 64 → start ≡ number * 64 → size ≡ 64 → part ≡ take size (drop start words) → held next ≡ part
+    → Filled words (map held pages) number → Filled words (map held (slice_set pages number next)) (number + 1)
+filled_next held pages next number start size words part are below starts sized is put so_far =
+    let there : number < length (map held pages) = omega (arith, so_far.count, below) in
+    let more : (number + 1) * 64 ≡ number * 64 + 64 = omega arith in
+    let set = map-set held pages number next ∙ ap (slice_set (map held pages) number) (put ∙ is ∙ ap₂ (λ n k. take n (drop k words)) sized starts) in
+    let one = take 64 (drop (number * 64) words) in
+    let long : length one ≡ 64 = length-take-le 64 (drop (number * 64) words)
+    (let rest = length-drop (number * 64) words in omega (arith, rest, are.count, below)) in
+    rw set (record {
+      count = length-set (map held pages) number one ∙ so_far.count;
+      each = All-set IsPage (map held pages) number one long so_far.each;
+      filled = ap concat (take_more_set (map held pages) number one there)
+          ∙ concat-append (take number (map held pages)) (one ∷ []) ∙ ap₂ (λ a b. a ++ b) so_far.filled (append-nil one)
+          ∙ sym (ap (λ n. take n words) more ∙ take-add (number * 64) 64 words);
+    })

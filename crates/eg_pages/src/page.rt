@@ -1,5 +1,6 @@
 // Pages of words, which several memories may share.
-ghost use Rattle.std.specs.Prelude.{◌≡◌, ◌<◌, replicate, slice_index, slice_set, IfOk, OnOk, OnErr};
+ghost use Rattle.std.specs.Prelude.{◌≡◌, ◌<◌, length, replicate, slice_index, slice_set, IfOk, OnOk, OnErr};
+ghost use Rattle.eg_guard.specs.Memory.{AreWords};
 ghost use Rattle.eg_pages.specs.Pages.{ArePages, pages_of, page_words};
 
 use eg_base::NoMemory;
@@ -62,6 +63,39 @@ pub(crate) fn joined(pages: &SharedPages) -> [u16; WORDS as usize]
         words[start..start + size].copy_from_slice(&*pages[number]);
     }
     words
+}
+
+/// Makes pages those of these words. One whose words are the same stays, and is shared as before.
+pub(crate) fn fill(
+    pages: &mut SharedPages,
+    alloc: Global,
+    words: &[u16; WORDS as usize],
+) -> Result<(), NoMemory>
+    requires are_pages { ArePages (pages_of pages.old) }
+    requires are_words { AreWords words.now }
+    ensures words { OnOk result (page_words pages.new ≡ words.now) }
+    ensures are_pages { OnOk result (ArePages (pages_of pages.new)) }
+{
+    let size = usize::from(PAGE_WORDS);
+    for number in 0..usize::from(PAGES) {
+        let start = number * size;
+        fill_page(&mut pages[number], alloc, &words[start..start + size])?;
+    }
+    Ok(())
+}
+
+/// Makes a page one of these words.
+fn fill_page(page: &mut SharedPage, alloc: Global, words: &[u16]) -> Result<(), NoMemory>
+    requires { length words.now ≡ PAGE_WORDS }
+    ensures { OnOk result (page.new.value ≡ words.now) }
+{
+    if page[..] == words[..] {
+        return Ok(());
+    }
+    let mut own = [0; PAGE_WORDS as usize];
+    own.copy_from_slice(words);
+    *page = Rc::new(alloc, own)?;
+    Ok(())
 }
 
 /// Puts a word at an address. NoMemory, which is meant to come only where the page is shared, changes

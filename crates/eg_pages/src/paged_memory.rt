@@ -2,7 +2,7 @@
 ghost use Rattle.std.specs.Prelude.{◌≡◌, IfOk, replicate, true, false};
 ghost use Rattle.eg_guard.specs.Memory.{AreWords};
 
-use crate::page::{SharedPages, joined, put_at, share, word_at, zero_pages};
+use crate::page::{SharedPages, fill, joined, put_at, share, word_at, zero_pages};
 use eg_base::NoMemory;
 use eg_guard::{CopyMemory, FlatMemory, Guarded, Refused, StoreRefusal, WORDS, Who, access};
 use std::alloc::Global;
@@ -39,6 +39,22 @@ impl PagedMemory {
         ensures are_words { IfOk result (λ memory. AreWords memory) }
     {
         let pages = zero_pages(alloc)?;
+        Ok(PagedMemory { pages, alloc })
+    }
+
+    /// A memory of the words of this one in one array. A page that is the same as that of `last` is meant to
+    /// be shared with it. Refused only where memory runs out.
+    pub fn like(
+        alloc: Global,
+        memory: &FlatMemory,
+        last: &PagedMemory,
+    ) -> Result<PagedMemory, NoMemory>
+        ensures words { IfOk result (λ paged. paged ≡ memory.now) }
+        ensures shown { IfOk result (λ paged. ⟦<PagedMemory as Guarded>⟧.shows paged
+            ≡ record { words = memory.now; sure = false }) }
+    {
+        let mut pages = share(&last.pages)?;
+        fill(&mut pages, alloc, memory.words())?;
         Ok(PagedMemory { pages, alloc })
     }
 

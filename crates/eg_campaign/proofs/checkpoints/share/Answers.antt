@@ -1,12 +1,17 @@
 use Rattle.std.proofs.Common.{◌≡◌, ◌∙◌, ◌<◌, ◌≤◌, refl, ap, subst, length, arith, not, ◌==◌}
+use Rattle.eg_fault.specs.Faults.{IsNoneOrValid}
 use Rattle.eg_model.specs.Bench.{Run}
 use Rattle.eg_campaign.specs.Plays.{run_with}
 use Rattle.eg_campaign.specs.Groups.{faultless}
 use Rattle.eg_campaign.specs.Checkpoints.{HasMade, AreCheckpoints}
-use Rattle.eg_tick.proofs.CountLemmas.{counted_err, out_between, out_within, long}
+use Rattle.eg_tick.proofs.CountLemmas.{counted_err, out_between, long}
 use Rattle.eg_campaign.proofs.OneGroup.{out_none}
 use Rattle.eg_campaign.proofs.CheckpointLemmas.{made_none, made_front, made_all, kept_none}
 use Rattle.eg_campaign.proofs.checkpoints.share.Goals as goal
+
+pub begin-requires-clause-valid : goal.begin-requires-clause-valid
+unfolding IsNoneOrValid
+begin-requires-clause-valid g c = tt
 
 pub loop-tick-init : goal.loop-tick-init
 loop-tick-init g c =
@@ -15,12 +20,13 @@ loop-tick-init g c =
     let come_to = g.E.BenchedEngine.come_to in
     let r : Run = (run_with c.args.calibration.now (faultless c.args.input.now)).run in
     record {
-      made = made_none weighed bench come_to r 0 c.in_ok-played.played c.args.steps.now c.count_none.ensures (c.in_ok-played.ensures weighed);
+      sure = c.begin.ensures.sure;
+      made = made_none weighed bench come_to r 0 c.begin.new.played c.args.steps.now c.count_none.ensures (c.begin.ensures.begun weighed);
       kept = kept_none weighed bench come_to r c.args.wanted.now c.new-checkpoints.result.items c.new-checkpoints.ensures.items;
     }
 
-pub returns-in_err-played-clause-counted : goal.returns-in_err-played-clause-counted
-returns-in_err-played-clause-counted g c = counted_err _ _ _ _ c.from_residual.ensures.0 (out_none _ _ c.count_none.ensures)
+pub returns-in_err-last-clause-counted : goal.returns-in_err-last-clause-counted
+returns-in_err-last-clause-counted g c = counted_err _ _ _ _ c.from_residual.ensures.0 (out_none _ _ c.count_none.ensures)
 
 pub returns-in_err-keep-clause-counted : goal.returns-in_err-keep-clause-counted
 returns-in_err-keep-clause-counted g c =
@@ -32,15 +38,18 @@ returns-in_err-keep-clause-counted g c =
     counted_err _ _ _ _ c.from_residual-in_err-keep.ensures.0 (out_between _ _ _ c.loop-tick.tick (subst (λ n. c.loop-tick.tick ≤ n) (long bench r) within)
     (made_front weighed bench g.E.BenchedEngine.come_to r _ _ _ _ c.loop-tick.invariant.made within))
 
-pub returns-in_err-play_tick-clause-counted : goal.returns-in_err-play_tick-clause-counted
-returns-in_err-play_tick-clause-counted g c =
+pub play_row-requires-clause-run : goal.play_row-requires-clause-run
+play_row-requires-clause-run g c = ((run_with c.args.calibration.now (faultless c.args.input.now)).run, record { plan = refl; drive = refl }, c.loop-tick.invariant.made.to)
+
+pub loop-tick-preserved : goal.loop-tick-preserved
+loop-tick-preserved g c =
     let weighed = not (g.row.WEIGHED == 0) in
-    let bench = g.E.BenchedEngine.bench in
     let r : Run = (run_with c.args.calibration.now (faultless c.args.input.now)).run in
-    let below : c.loop-tick.tick < length r.drive = subst (λ d. c.loop-tick.tick < length d) c.as_slice-tick-end.ensures c.loop-tick-test.true in
-    let within : c.loop-tick.tick ≤ length r.drive = omega (arith, below) in
-    counted_err _ _ _ _ c.from_residual-in_err-play_tick.ensures.0 (out_within _ _ _ _ c.loop-tick.tick (subst (λ n. c.loop-tick.tick < n) (long bench r) below)
-    (made_front weighed bench g.E.BenchedEngine.come_to r _ _ _ _ c.loop-tick.invariant.made within) c.in_err-play_tick.ensures.count c.in_err-play_tick.ensures.no_weight)
+    record {
+      sure = c.play_row.ensures.stays_sure;
+      made = c.play_row.ensures.made r 0 c.args.steps.now (record { plan = refl; drive = refl }) c.loop-tick.invariant.made;
+      kept = c.in_ok-keep.ensures weighed r c.loop-tick.invariant.made.to c.loop-tick.invariant.kept;
+    }
 
 pub returns : goal.returns
 returns g c =
@@ -58,4 +67,5 @@ returns g c =
       };
       wanted = refl;
       counted = made_all weighed bench come_to r c.loop-tick.played c.args.steps.now c.loop-tick.steps made;
+      bench = made.to.at.stands.cal;
     }
