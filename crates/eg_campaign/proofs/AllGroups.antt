@@ -22,7 +22,7 @@ use Rattle.eg_campaign.specs.Groups.{AreTold, is_alike, group_of, firsts_after, 
 use Rattle.eg_campaign.specs.Keys.{is_alike-equality}
 use Rattle.eg_campaign.proofs.AlikeLemmas.{alike, faultless-same}
 use Rattle.eg_campaign.proofs.LeaderLemmas.{is_led, led-by_none, led-by_all, led-more, led-old}
-use Rattle.eg_campaign.proofs.OneGroup.{Counted, said, more, stopped, ended, next, wrote}
+use Rattle.eg_campaign.proofs.OneGroup.{Counted, said, more, stopped, ended, next, wrote, written_to}
 
 -- ---- lists ----
 
@@ -65,13 +65,21 @@ module _ {X : Type 0} (p : X → Bool) where
       go true is h rest = cc
       go false is h rest = ap₂ (λ y ys. y ∷ ys) (ap (λ b. if b then f x else g x) is) (rest h)
 
+  -- so up to a place before which none passes all is written
+  pub written_before : {T : Type 0} (f g : X → T) (xs : List X) (i : ℕ) → filter p (take i xs) ≡ [] → map g xs ≡ written_to (λ y. if p y then f y else g y) g xs i
+  written_before f g xs i none = ap (map g) (sym (take-append-drop i xs)) ∙ map-append g (take i xs) (drop i xs)
+      ∙ ap (λ l. l ++ map g (drop i xs)) (sym (unwritten f g (take i xs) none))
+
+  -- and what passes stands behind it
+  pub filter_behind : (xs : List X) (i : ℕ) → filter p (take i xs) ≡ [] → filter p xs ≡ filter p (drop i xs)
+  filter_behind xs i none = ap (filter p) (sym (take-append-drop i xs)) ∙ filter-append p (take i xs) (drop i xs) ∙ ap (λ l. l ++ filter p (drop i xs)) none
+
   -- where one alone passes its place is written
   pub written_alone : {T : Type 0} (f g : X → T) (xs : List X) (i : ℕ) (x : X) → i < length xs → x ≡ get_or xs i x → p x ≡ true →
       length (filter p xs) < 2 → slice_set (map g xs) i (f x) ≡ map (λ y. if p y then f y else g y) xs
   written_alone f g xs i x below is so few =
       let w = λ (y : X). if p y then f y else g y in
-      wrote w g xs i x (map g xs) (f x) below is (sym (ap (λ b. if b then f x else g x) so)) (ap (map g) (sym (take-append-drop i xs)) ∙ map-append g (take i xs) (drop i xs)
-      ∙ ap (λ l. l ++ map g (drop i xs)) (sym (unwritten f g (take i xs) (before_none xs i x below is so few))))
+      wrote w g xs i x (map g xs) (f x) below is (sym (ap (λ b. if b then f x else g x) so)) (written_before f g xs i (before_none xs i x below is so few))
       ∙ ap (λ l. map w (take (i + 1) xs) ++ l) (sym (unwritten f g (drop (i + 1) xs) (after_none xs i x below is so few)))
       ∙ sym (map-append w (take (i + 1) xs) (drop (i + 1) xs)) ∙ ap (map w) (take-append-drop (i + 1) xs)
 

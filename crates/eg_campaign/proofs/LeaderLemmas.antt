@@ -1,17 +1,19 @@
 -- Leaders: the first of these inputs that is of the group of one.
-use Rattle.std.proofs.Common.{◌≡◌, ◌∙◌, refl, sym, ap, ap₂, subst, ℕ, zero, suc, ◌+◌, ◌<◌, ◌≤◌, Bool, true, false, not, ◌&&◌, ◌||◌, ◌==◌, nat_lt, List, [], ◌∷◌, map, length, get_or, arith, Option, Some, None, inl, inr}
-use Rattle.std.specs.Prelude.{filter, is_some, unwrap_or, if◌then◌else◌}
+use Rattle.std.proofs.Common.{◌≡◌, ◌∙◌, refl, sym, ap, ap₂, subst, ℕ, zero, suc, ◌+◌, ◌<◌, ◌≤◌, Bool, true, false, not, ◌&&◌, ◌||◌, ◌==◌, nat_lt, List, [], ◌∷◌, map, take, length, get_or, cond, arith, Option, Some, None, inl, inr}
+use Rattle.std.specs.Prelude.{All, filter, is_some, unwrap_or, slice_set, if◌then◌else◌}
 use Rattle.std.specs.List.{position_or_len}
 use Rattle.std.specs.Cmp.{both_ways}
 use Rattle.std.proofs.lemmas.Bool.{true≢false, cases_lt, lt-ltb, ltb-true, ltb-false, eq-eqb, ne_eqb, eqb-true}
 use Rattle.std.proofs.lemmas.Bool.Decides.{nat_tests}
-use Rattle.std.proofs.lemmas.List.{get_or-map, get_or_default}
+use Rattle.std.proofs.lemmas.List.{get_or_default, get_or-set_same, get_or-set_other, length-map, length-take-le}
+use Rattle.std.proofs.lemmas.List.Filters.{length-filter_more, length-filter_both}
 use Rattle.std.proofs.lemmas.List.Sums.{fails_before_first, prefix_len_stops}
 use Rattle.eg_campaign.specs.declared.play.RunInput.{RunInput}
 use Rattle.eg_campaign.specs.declared.key.GroupKey.{GroupKey}
 use Rattle.eg_campaign.specs.Groups.{AreAlike, is_alike, group_of, leader_in}
 use Rattle.eg_campaign.specs.Keys.{group_number, is_same_key, is_alike-equality}
 use Rattle.eg_campaign.proofs.AlikeLemmas.{alike}
+use Rattle.eg_campaign.proofs.PlayLemmas.{mapped-at}
 
 -- ---- keys ----
 
@@ -63,6 +65,19 @@ leader-alone (x ∷ []) alone = ap (λ (n : ℕ). n ∷ []) (leads (is_alike x x
     leads false so = absurd (let clash : false ≡ true = so in cc)
 leader-alone (x ∷ y ∷ more) alone = absurd (omega arith)
 
+-- none that passes stands before the first
+none_first : {X : Type 0} (p : X → Bool) (xs : List X) → filter p (take (position_or_len p xs) xs) ≡ []
+none_first p [] = refl
+none_first p (x ∷ xs) = go (p x) refl (none_first p xs)
+  where
+    one : (n : ℕ) → 1 + n ≡ suc n
+    one n = omega arith
+
+    go : (b : Bool) → p x ≡ b → filter p (take (position_or_len p xs) xs) ≡ [] → filter p (take (if not b then 1 + position_or_len p xs else 0) (x ∷ xs)) ≡ []
+    go true so rest = refl
+    go false so rest = ap (λ n. filter p (take n (x ∷ xs))) (one (position_or_len p xs))
+        ∙ ap (λ b. if b then x ∷ filter p (take (position_or_len p xs) xs) else filter p (take (position_or_len p xs) xs)) so ∙ rest
+
 module _ (inputs : List RunInput) (i : ℕ) (x : RunInput) (below : i < length inputs) (at : x ≡ get_or inputs i x) where
   -- a run leads itself, or one before it does
   leader-most : leader_in inputs x ≤ i
@@ -79,6 +94,10 @@ module _ (inputs : List RunInput) (i : ℕ) (x : RunInput) (below : i < length i
 
   pub not_led : leader_in inputs x ≡ i → is_led inputs i x ≡ false
   not_led here = grind (arith, nat_tests)
+
+  -- none of its group stands before a leader
+  pub none-before : leader_in inputs x ≡ i → filter (is_alike x) (take i inputs) ≡ []
+  none-before here = ap (λ n. filter (is_alike x) (take n inputs)) (sym here) ∙ none_first (is_alike x) inputs
 
   -- whom x leads is of its group
   leads : (y : RunInput) → leader_in inputs y ≡ i → is_alike y x ≡ true
@@ -184,7 +203,16 @@ one_item xs i x y below at there = at ∙ get_or_default xs i x y below ∙ sym 
 module _ (inputs : List RunInput) (leaders : List ℕ) (are : leaders ≡ map (leader_in inputs) inputs) where
   -- at each place that of the run there
   pub leader-at : (j : ℕ) (y : RunInput) (d : ℕ) → j < length inputs → y ≡ get_or inputs j y → get_or leaders j d ≡ leader_in inputs y
-  leader-at j y d below at = ap (λ l. get_or l j d) are ∙ get_or-map (leader_in inputs) inputs j y d below ∙ ap (leader_in inputs) (sym at)
+  leader-at = mapped-at (leader_in inputs) inputs leaders are
+
+  pub leaders-below : All (λ leader. leader < length leaders) leaders
+  leaders-below j d below =
+      let long : length leaders ≡ length inputs = ap length are ∙ length-map inputs (leader_in inputs) in
+      let within : j < length inputs = omega (arith, long, below) in
+      let (y, there) = item inputs j within in
+      let is = leader-at j y d within there in
+      let most = leader-most inputs j y within there in
+      omega (arith, long, within, is, most)
 
   -- whether x leads the run there
   pub led-here : (i : ℕ) (x : RunInput) → i < length inputs → x ≡ get_or inputs i x → leader_in inputs x ≡ i →
@@ -211,3 +239,29 @@ module _ (inputs : List RunInput) (leaders : List ℕ) (are : leaders ≡ map (l
               length (if b then f x ∷ filter p (map f xs) else filter p (map f xs)) ≡ length (if b then x ∷ filter (λ x. p (f x)) xs else filter (λ x. p (f x)) xs)
           go true rest = ap suc rest
           go false rest = rest
+
+-- one leader more, by which one is counted more
+pub counts_next : (leaders counts : List ℕ) (i leader one : ℕ) → i < length leaders → leader ≡ get_or leaders i leader → leader < length counts →
+    one ≡ get_or counts leader 0 + 1 → ((k : ℕ) → k < length leaders → get_or counts k 0 ≡ length (filter (λ l. l == k) (take i leaders))) →
+    (k : ℕ) → k < length leaders → get_or (slice_set counts leader one) k 0 ≡ length (filter (λ l. l == k) (take (i + 1) leaders))
+counts_next leaders counts i leader one below at within is so_far k inside = go (leader == k) refl
+  where
+    plus_none : (n : ℕ) → n + 0 ≡ n
+    plus_none n = omega arith
+
+    more : length (filter (λ l. l == k) (take (i + 1) leaders)) ≡ length (filter (λ l. l == k) (take i leaders)) + cond (leader == k) 1 0
+    more = length-filter_more (λ l. l == k) leaders i leader below ∙ ap (λ l. length (filter (λ l. l == k) (take i leaders)) + cond (l == k) 1 0) (sym at)
+
+    go : (b : Bool) → (leader == k) ≡ b → get_or (slice_set counts leader one) k 0 ≡ length (filter (λ l. l == k) (take (i + 1) leaders))
+    go true so =
+        let here : leader ≡ k = eqb-true leader k so in
+        ap (λ n. get_or (slice_set counts leader one) n 0) (sym here) ∙ get_or-set_same counts leader one 0 within ∙ is
+        ∙ ap (λ n. get_or counts n 0 + 1) here ∙ ap (λ n. n + 1) (so_far k inside)
+        ∙ sym (more ∙ ap (λ b. length (filter (λ l. l == k) (take i leaders)) + cond b 1 0) so)
+    go false so = get_or-set_other counts leader k one 0 (λ e. true≢false (sym (eq-eqb leader k (sym e)) ∙ so)) ∙ so_far k inside
+        ∙ sym (more ∙ ap (λ b. length (filter (λ l. l == k) (take i leaders)) + cond b 1 0) so ∙ plus_none (length (filter (λ l. l == k) (take i leaders))))
+
+-- of the first items no more pass than there are
+pub few_pass : {X : Type 0} (p : X → Bool) (xs : List X) (i : ℕ) → i ≤ length xs → length (filter p (take i xs)) ≤ i
+few_pass p xs i within =
+    let all = length-filter_both p (λ x. not (p x)) (λ x. refl) (take i xs) in let long = length-take-le i xs within in omega (arith, all, long)

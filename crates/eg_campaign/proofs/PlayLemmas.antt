@@ -2,7 +2,7 @@
 use Rattle.std.proofs.Common.{◌≡◌, ◌∙◌, sym, ap, ap₂, subst, All, ℕ, ◌+◌, ◌<◌, List, [], ◌∷◌, ◌++◌, map, take, get_or, length, add-one}
 use Rattle.std.specs.Prelude.{Option, reverse}
 use Rattle.std.proofs.Math.Seq.{take-suc}
-use Rattle.std.proofs.lemmas.List.{map-append}
+use Rattle.std.proofs.lemmas.List.{map-append, get_or-map, get_or_default}
 use Rattle.std.proofs.lemmas.List.Elements.{All-push}
 use Rattle.eg_num.specs.Drive.{DriveRow}
 use Rattle.eg_fault.specs.declared.class.Fault.{Fault}
@@ -46,6 +46,17 @@ pub map-more : {X Y : Type 0} (f : X → Y) (xs : List X) (i : ℕ) (x : X) → 
     map f (take (i + 1) xs) ≡ map f (take i xs) ++ f x ∷ []
 map-more f xs i x below is = ap (λ n. map f (take n xs)) (add-one i) ∙ ap (map f) (take-suc xs i x below)
     ∙ map-append f (take i xs) (get_or xs i x ∷ []) ∙ ap (λ y. map f (take i xs) ++ f y ∷ []) (sym is)
+
+-- the item at a place of what is made of a list
+pub mapped-at : {X Y : Type 0} (f : X → Y) (xs : List X) (ys : List Y) → ys ≡ map f xs → (i : ℕ) (x : X) (d : Y) → i < length xs → x ≡ get_or xs i x →
+    get_or ys i d ≡ f x
+mapped-at f xs ys are i x d below at = ap (λ l. get_or l i d) are ∙ get_or-map f xs i x d below ∙ ap f (sym at)
+
+-- one item more in a list that is made of the front
+pub map-next : {X Y : Type 0} (f : X → Y) (xs : List X) (i : ℕ) (d : X) (made now : List Y) → i < length xs → now ≡ made ++ f (get_or xs i d) ∷ [] →
+    made ≡ map f (take i xs) → now ≡ map f (take (i + 1) xs)
+map-next f xs i d made now below is so_far = is ∙ ap (λ l. l ++ f (get_or xs i d) ∷ []) so_far
+    ∙ sym (map-more f xs i (get_or xs i d) below (get_or_default xs i d (get_or xs i d) below))
 
 pub all-more : {X : Type 0} (P : X → Type 0) (xs : List X) (i : ℕ) (x : X) → i < length xs → x ≡ get_or xs i x →
     All P (take i xs) → P x → All P (take (i + 1) xs)

@@ -1,6 +1,6 @@
 -- Outside the headline. From where runs under faults go on: what was played of a run up to a tick, and
 -- what is kept of the run without a fault.
-use Rattle.std.specs.Prelude.{◌≡◌, ℕ, Bool, false, ◌+◌, ◌*◌, ◌-◌, ◌/◌, ◌≤◌, ◌<◌, List, take, length, Option, Some, None, IsTrue, slice_index_or}
+use Rattle.std.specs.Prelude.{◌≡◌, ◌==◌, ℕ, Bool, false, ◌+◌, ◌*◌, ◌-◌, ◌/◌, ◌≤◌, ◌<◌, List, filter, take, length, Option, Some, None, IsTrue, slice_index_or}
 use Rattle.std.specs.declared.alloc.Global.{Global}
 use Rattle.std.specs.declared.boxed.Box.{Box}
 use Rattle.eg_fault.specs.declared.class.Fault.{Fault}
@@ -82,10 +82,16 @@ abbrev pub IsWantedFor : List Bool → Option Fault → Type 0
 IsWantedFor wanted (Some fault) = IsWantedAt wanted (fault.onset / checkpoint_ticks)
 IsWantedFor wanted None = Unit {0}
 
--- of the first n inputs, those that the run at this index leads have what they want
+-- of the inputs from this index on up to n, those that the run there leads have what they want
 abbrev pub AreWantedIn : List RunInput → (leaders : List ℕ) → (index n : ℕ) → (wanted : List Bool) → Type 0
-AreWantedIn inputs leaders index n wanted = (i : ℕ) → i < n → slice_index_or leaders i 0 ≡ index →
+AreWantedIn inputs leaders index n wanted = (i : ℕ) → index ≤ i → i < n → slice_index_or leaders i 0 ≡ index →
     (input : RunInput) → input ≡ slice_index_or inputs i input → IsWantedFor wanted input.plan.fault
+
+-- for each run how many it leads, by the leader of each
+pub record AreCounts (leaders counts : List ℕ) : Type 0 where
+  pub as_many : length counts ≡ length leaders
+  pub each : (k : ℕ) → k < length leaders →
+      slice_index_or counts k 0 ≡ length (filter (λ leader. leader == k) leaders)
 
 -- What is kept of the first n ticks of a run: what was played at each hundredth tick below n but the first,
 -- where that is wanted.

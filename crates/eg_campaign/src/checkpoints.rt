@@ -189,8 +189,8 @@ fn keep_none<E: BenchedEngine + CopyEngine>(
     Ok(())
 }
 
-/// Keeps what was played. The pages of its memory that are the same as in the last copy are meant to be shared
-/// with that. It isn't inlined, so that its large locals are set to 0 at a hundredth tick alone.
+/// Keeps what was played. The pages of its memory that are the same as in the last copy are meant to be
+/// shared with that. It isn't inlined, so that its large locals are set to 0 at a hundredth tick alone.
 #[inline(never)]
 fn keep_copy<E: BenchedEngine + CopyEngine>(
     alloc: Global,

@@ -10,7 +10,7 @@ use crate::RunInput;
 use crate::benches::Benches;
 use crate::checkpoints::{Bench, play_from, share};
 use crate::counting::count_none;
-use crate::leading::leaders;
+use crate::leading::{counts_led, leaders};
 use crate::play::tell_one;
 use crate::wanted::wanted_in;
 use eg_base::NoMemory;
@@ -22,11 +22,12 @@ use eg_tick::{BenchedEngine, Ticks};
 use eg_values::Calibration;
 use std::alloc::Global;
 
-/// The group that the run at an index leads, by the leader of each run of the campaign.
+/// The group that the run at an index leads, by the leader of each run of the campaign, and how many it is.
 #[derive(Clone, Copy)]
 struct Group<'a> {
     leaders: &'a [usize],
     index: usize,
+    size: usize,
 }
 
 /// Plays the runs of a campaign as `run_all` does, and tells of each its facts, the reactions in its spans,
@@ -46,6 +47,7 @@ pub fn told_all<const WEIGHED: bool>(
     // Called for its clause alone.
     count_none(steps);
     let leaders = leaders(alloc, inputs)?;
+    let counts = counts_led(alloc, &leaders)?;
     let mut told = untold(alloc, calibration, inputs.len())?;
     let mut benches = Benches::new(calibration);
     for i in 0..inputs.len() {
@@ -55,6 +57,7 @@ pub fn told_all<const WEIGHED: bool>(
         let group = Group {
             leaders: &leaders,
             index: i,
+            size: counts[i],
         };
         play_first::<WEIGHED>(
             alloc,
@@ -100,6 +103,7 @@ fn play_first<const WEIGHED: bool>(
     requires index { group.index < length inputs.now }
     requires leaders { group.leaders.now ≡ map (leader_in inputs.now) inputs.now }
     requires leads { slice_index_or group.leaders.now group.index 0 ≡ group.index }
+    requires size { group.size ≡ length (filter (λ leader. leader == group.index) group.leaders.now) }
     requires places { length told.old ≡ length inputs.now }
     requires benches { AreFor calibration.now benches.old }
     ensures benches { OnOk result (AreFor calibration.now benches.new) }
@@ -109,9 +113,9 @@ fn play_first<const WEIGHED: bool>(
     ensures counted { (x : RunInput) → x ≡ slice_index_or inputs.now group.entry.index x →
         AreCounted (rows_of_group calibration.now (group_of inputs.now x)) steps.old steps.new result }
 {
-    let Group { leaders, index } = group;
+    let index = group.index;
     let input = &inputs[index];
-    if count_led(leaders, index) < 2 {
+    if group.size < 2 {
         told[index] = tell_one::<WEIGHED>(benches, calibration, input, steps);
         return Ok(());
     }
@@ -141,13 +145,6 @@ fn play_first<const WEIGHED: bool>(
     }
 }
 
-/// How many runs this one leads, by the leader of each.
-fn count_led(leaders: &[usize], leader: usize) -> usize
-    ensures { result ≡ length (filter (λ other. other == leader) leaders.now) }
-{
-    leaders.iter().filter(|other| **other == leader).count()
-}
-
 /// Plays this group on an engine of this type: the run without a fault once, and each run of the group from
 /// there. What each tells is written at its index.
 fn play_group<E: BenchedEngine + CopyEngine, const WEIGHED: bool>(
@@ -174,11 +171,11 @@ fn play_group<E: BenchedEngine + CopyEngine, const WEIGHED: bool>(
 {
     // Called for its clause alone.
     count_none(steps);
-    let Group { leaders, index } = group;
+    let (leaders, index) = (group.leaders, group.index);
     let input = &inputs[index];
     let wanted = wanted_in(inputs, leaders, index);
     let shared = share::<E, WEIGHED>(alloc, played, calibration, input, &wanted, steps)?;
-    for i in 0..inputs.len() {
+    for i in index..inputs.len() {
         if leaders[i] != index {
             continue;
         }

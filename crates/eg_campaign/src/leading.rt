@@ -1,9 +1,10 @@
 // Which run is the first of the group of each.
-ghost use Rattle.std.specs.Prelude.{◌≡◌, map, Some, is_some, unwrap_or, IfOk, OnOk, if◌then◌else◌};
+ghost use Rattle.std.specs.Prelude.{◌≡◌, ◌<◌, All, length, map, Some, is_some, unwrap_or, IfOk, OnOk, if◌then◌else◌};
 ghost use Rattle.std.specs.HashMap.{get};
 ghost use Rattle.eg_campaign.specs.declared.key.GroupKey.{GroupKey as Key};
 ghost use Rattle.eg_campaign.specs.Keys.{is_same_key};
 ghost use Rattle.eg_campaign.specs.Groups.{leader_in};
+ghost use Rattle.eg_campaign.specs.Checkpoints.{AreCounts};
 
 use crate::RunInput;
 use crate::key::GroupKey;
@@ -46,4 +47,16 @@ fn first_or<'a>(
     }
     firsts.insert(key, index)?;
     Ok(index)
+}
+
+/// For each run how many it leads, by the leader of each. NoMemory is its one refusal.
+pub(crate) fn counts_led(alloc: Global, leaders: &[usize]) -> Result<Vec<usize>, NoMemory>
+    requires { All (λ leader. leader < length leaders.now) leaders.now }
+    ensures { IfOk result (λ counts. AreCounts leaders.now counts.items) }
+{
+    let mut counts = vec![in alloc; 0; leaders.len()]?;
+    for leader in leaders {
+        counts[*leader] += 1;
+    }
+    Ok(counts)
 }

@@ -30,7 +30,7 @@ pub(crate) fn wanted_in(inputs: &[RunInput], leaders: &[usize], index: usize) ->
     ensures { AreWantedIn inputs.now leaders.now index (length inputs.now) result }
 {
     let mut wanted = [false; 200];
-    for i in 0..inputs.len() {
+    for i in index..inputs.len() {
         if leaders[i] == index {
             want(&mut wanted, inputs[i].plan.fault.as_ref());
         }

@@ -13,9 +13,9 @@ use Rattle.eg_campaign.proofs.LeaderLemmas.{one_item, leader-at, count-led}
 use Rattle.eg_campaign.proofs.AllGroups.{alone, written_alone, shared_rows, written_by}
 use Rattle.eg_campaign.proofs.groups.play_first.Goals as goal
 
-pub returns-then-count_led-lt2 : goal.returns-then-count_led-lt2
+pub returns-then-group-lt2 : goal.returns-then-group-lt2
 unfolding rows_of_group rows_in_time
-returns-then-count_led-lt2 g c =
+returns-then-group-lt2 g c =
     let cal = c.args.calibration.now in
     let inputs = c.args.inputs.now in
     let input = c.index-inputs-index.result in
@@ -23,7 +23,7 @@ returns-then-count_led-lt2 g c =
     let at = c.index-inputs-index.is in
     let here = sym (leader-at inputs c.args.group.leaders.now c.requires.leaders index input 0 c.requires.index at) ∙ c.requires.leads in
     let few : length (group_of inputs input) < 2 =
-    subst (λ n. n < 2) (c.count_led.ensures ∙ count-led inputs c.args.group.leaders.now c.requires.leaders index input c.requires.index at here) c.if-count_led-lt2.true in
+    subst (λ n. n < 2) (c.requires.size ∙ count-led inputs c.args.group.leaders.now c.requires.leaders index input c.requires.index at here) c.if-group-lt2.true in
     record {
       benches = c.tell_one.ensures.benches;
       told = λ x there before h.
@@ -50,7 +50,7 @@ returns-in-Gasoline g c =
       counted = λ x there.
           let here = sym (leader-at inputs c.args.group.leaders.now c.requires.leaders index x 0 c.requires.index there) ∙ c.requires.leads in
           let long : 2 ≤ length (group_of inputs x) =
-          subst (λ n. 2 ≤ n) (c.count_led.ensures ∙ count-led inputs c.args.group.leaders.now c.requires.leaders index x c.requires.index there here) c.if-count_led-lt2.false in
+          subst (λ n. 2 ≤ n) (c.requires.size ∙ count-led inputs c.args.group.leaders.now c.requires.leaders index x c.requires.index there here) c.if-group-lt2.false in
           subst (λ (rows : List Row). AreCounted rows c.args.steps.now c.play_group.new.steps c.play_group.result)
           (shared_rows cal inputs x kind.Gasoline long (engine x there)) (c.play_group.ensures.counted x there);
     }
@@ -70,7 +70,7 @@ returns-in-Diesel g c =
       counted = λ x there.
           let here = sym (leader-at inputs c.args.group.leaders.now c.requires.leaders index x 0 c.requires.index there) ∙ c.requires.leads in
           let long : 2 ≤ length (group_of inputs x) =
-          subst (λ n. 2 ≤ n) (c.count_led.ensures ∙ count-led inputs c.args.group.leaders.now c.requires.leaders index x c.requires.index there here) c.if-count_led-lt2.false in
+          subst (λ n. 2 ≤ n) (c.requires.size ∙ count-led inputs c.args.group.leaders.now c.requires.leaders index x c.requires.index there here) c.if-group-lt2.false in
           subst (λ (rows : List Row). AreCounted rows c.args.steps.now c.play_group-in-Diesel.new.steps c.play_group-in-Diesel.result)
           (shared_rows cal inputs x kind.Diesel long (engine x there)) (c.play_group-in-Diesel.ensures.counted x there);
     }

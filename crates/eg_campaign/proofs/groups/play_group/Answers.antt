@@ -1,4 +1,4 @@
-use Rattle.std.proofs.Common.{◌≡◌, ◌∙◌, sym, ap, subst, true, false, get_or, Option, not, ◌==◌}
+use Rattle.std.proofs.Common.{◌≡◌, ◌∙◌, sym, ap, subst, true, false, [], get_or, take, Option, not, ◌==◌, arith}
 use Rattle.std.specs.Prelude.{filter}
 use Rattle.std.specs.List.{flat_map}
 use Rattle.std.proofs.lemmas.List.{length-set, drop_all}
@@ -10,7 +10,8 @@ use Rattle.eg_campaign.specs.declared.play.RunInput.{RunInput}
 use Rattle.eg_campaign.specs.Plays.{IsPlayable}
 use Rattle.eg_campaign.specs.Groups.{is_alike, input_under, own_on, rows_shared, told_on, written_over}
 use Rattle.eg_campaign.proofs.OneGroup.{Counted, begun, more, said, stopped, ended, shared_of, rest-when, wrote, left, all_written, written-when}
-use Rattle.eg_campaign.proofs.LeaderLemmas.{item, one_item, leader-at, led-here, led-elsewhere}
+use Rattle.eg_campaign.proofs.LeaderLemmas.{item, one_item, leader-at, none-before, led-here, led-elsewhere}
+use Rattle.eg_campaign.proofs.AllGroups.{written_before, filter_behind}
 use Rattle.eg_campaign.proofs.groups.play_group.Goals as goal
 
 pub returns-in_err-shared-clause-counted : goal.returns-in_err-shared-clause-counted
@@ -30,13 +31,18 @@ loop-i-init g c =
     let cal = c.args.calibration.now in
     let inputs = c.args.inputs.now in
     let input = c.index-inputs-index.result in
+    let index = c.args.group.index in
+    let none : (x : RunInput) → x ≡ get_or inputs index x → filter (is_alike x) (take index inputs) ≡ [] = λ x at.
+    none-before inputs index x c.requires.index at (sym (leader-at inputs c.args.group.leaders.now c.requires.leaders index x 0 c.requires.index at) ∙ c.requires.leads) in
     record {
-      cal = c.requires.bench;
+      least = omega arith;
+      cal = c.in_ok-shared.ensures.bench;
       places = c.requires.places;
-      told = λ x at before h. h;
-      counts = λ x at. subst (λ z. Counted c.args.steps.now c.share.new.steps (flat_map (own_on bench cal) (filter (is_alike z) inputs)) (rows_shared bench cal inputs z))
-          (one_item inputs c.args.group.index input x c.requires.index c.index-inputs-index.is at)
-          (more _ _ _ _ _ _ (begun c.args.steps.now (rows_shared bench cal inputs input) c.count_none.ensures) c.in_ok-shared.ensures.counted);
+      told = λ x at before h. h ∙ written_before (is_alike x) (told_on (not (g.row.WEIGHED == 0)) bench cal) before inputs index (none x at);
+      counts = λ x at. said _ _ _ _ _ (ap (flat_map (own_on bench cal)) (filter_behind (is_alike x) inputs index (none x at)))
+          (subst (λ z. Counted c.args.steps.now c.share.new.steps (flat_map (own_on bench cal) (filter (is_alike z) inputs)) (rows_shared bench cal inputs z))
+          (one_item inputs index input x c.requires.index c.index-inputs-index.is at)
+          (more _ _ _ _ _ _ (begun c.args.steps.now (rows_shared bench cal inputs input) c.count_none.ensures) c.in_ok-shared.ensures.counted));
     }
 
 pub play_from-one-requires-clause-shared : goal.play_from-one-requires-clause-shared
@@ -67,6 +73,7 @@ loop-i-preserved-then-leaders-i g c =
     led-elsewhere inputs leaders are index x c.requires.index at (sym
     (leader-at inputs leaders are index x 0 c.requires.index at) ∙ c.requires.leads) i y 0 c.loop-i-test.true one.1 c.if-leaders-i.true in
     record {
+      least = omega (arith, c.loop-i.invariant.least);
       cal = c.loop-i.invariant.cal;
       places = c.loop-i.invariant.places;
       told = λ x at before h. left (written_over (told_on (not (g.row.WEIGHED == 0)) bench cal) x before) before inputs i y c.loop-i.told c.loop-i-test.true one.1
@@ -101,6 +108,7 @@ loop-i-preserved g c =
     (leader-at inputs leaders are index x 0 c.requires.index at) ∙ c.requires.leads) i y 0 c.loop-i-test.true c.index-inputs-i.is c.if-leaders-i.false in
     let under = c.as_ref-fault.ensures.value in
     record {
+      least = omega (arith, c.loop-i.invariant.least);
       cal = c.play_from-one.ensures.bench;
       places = length-set c.loop-i.told i one ∙ c.loop-i.invariant.places;
       told = λ x at before h. wrote (written_over (told_on (not (g.row.WEIGHED == 0)) bench cal) x before) before inputs i y c.loop-i.told one

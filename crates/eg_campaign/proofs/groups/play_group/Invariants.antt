@@ -1,4 +1,4 @@
-use Rattle.std.proofs.Common.{◌≡◌, map, drop, length, not, ◌==◌}
+use Rattle.std.proofs.Common.{◌≡◌, ◌≤◌, map, drop, length, not, ◌==◌}
 use Rattle.std.specs.Prelude.{filter, slice_index_or}
 use Rattle.std.specs.List.{flat_map}
 use Rattle.eg_record.specs.declared.run_facts.RunFacts.{RunFacts}
@@ -12,6 +12,7 @@ abbrev pub invariant-loop-i : goal.invariant-loop-i
 invariant-loop-i g l =
     let bench = g.E.BenchedEngine.bench in
     record {
+      least : l.index ≤ l.i;
       cal : l.played.controller.kept.cal ≡ l.calibration;
       places : length l.told ≡ length l.inputs;
       told : (x : RunInput) → x ≡ slice_index_or l.inputs l.index x → (before : RunInput → RunFacts) → l.fn.told ≡ map before l.inputs →

@@ -1,8 +1,10 @@
-use Rattle.std.proofs.Common.{◌≡◌, ◌∙◌, sym, subst, ◌+◌, List, map, not, ◌==◌}
+use Rattle.std.proofs.Common.{◌≡◌, ◌∙◌, sym, ap, subst, ◌+◌, ◌<◌, List, map, length, not, ◌==◌, arith}
+use Rattle.std.specs.Prelude.{filter}
+use Rattle.std.proofs.lemmas.List.{get_or_default, length-map}
 use Rattle.eg_record.specs.declared.run_facts.RunFacts.{RunFacts}
-use Rattle.eg_campaign.specs.Groups.{told_by, written_over}
+use Rattle.eg_campaign.specs.Groups.{leader_in, told_by, written_over}
 use Rattle.eg_campaign.proofs.OneGroup.{begun, out_none}
-use Rattle.eg_campaign.proofs.LeaderLemmas.{item, leader-at, led-before, not_led}
+use Rattle.eg_campaign.proofs.LeaderLemmas.{item, leader-at, leaders-below, led-before, not_led}
 use Rattle.eg_campaign.proofs.AllGroups.{Goes, told_after, places, wrote_back, not_told, goes-begin, goes-on, goes-new, goes-stopped, goes-end-told, goes-end-counted}
 use Rattle.eg_campaign.proofs.groups.told_all.Goals as goal
 
@@ -17,6 +19,35 @@ returns-in_err-leaders g c = not_told _ _ _ _ _ _ c.from_residual.ensures.0 (out
 
 pub returns-in_err-told : goal.returns-in_err-told
 returns-in_err-told g c = not_told _ _ _ _ _ _ c.from_residual-in_err-told.ensures.0 (out_none _ _ c.count_none.ensures)
+
+pub counts_led-requires : goal.counts_led-requires
+counts_led-requires g c = leaders-below c.args.inputs.now c.deref.result.now (c.deref.ensures.value ∙ c.in_ok-leaders.ensures)
+
+pub returns-in_err-counts : goal.returns-in_err-counts
+returns-in_err-counts g c = not_told _ _ _ _ _ _ c.from_residual-in_err-counts.ensures.0 (out_none _ _ c.count_none.ensures)
+
+pub play_first-requires-clause-size : goal.play_first-requires-clause-size
+play_first-requires-clause-size g c =
+    let inputs = c.args.inputs.now in
+    let i = c.loop-i.i in
+    let below : i < length c.deref.result.now =
+    let long = length-map inputs (leader_in inputs) in
+    subst (λ l. i < length l) (sym (c.deref.ensures.value ∙ c.in_ok-leaders.ensures)) (omega (arith, long, c.loop-i-test.true)) in
+    c.index-in-loop-i.ensures ∙ get_or_default c.in_ok-counts.counts.items i _ 0 (omega (arith, below, c.in_ok-counts.ensures.as_many)) ∙ c.in_ok-counts.ensures.each i below
+    ∙ ap (λ l. length (filter (λ leader. leader == i) l)) (c.deref.ensures.value ∙ sym c.deref-in-loop-i.ensures.value)
+
+pub play_first-requires-clause-playable : goal.play_first-requires-clause-playable
+play_first-requires-clause-playable g c = c.requires
+
+pub play_first-requires-clause-benches : goal.play_first-requires-clause-benches
+play_first-requires-clause-benches g c = c.loop-i.invariant.benches
+
+pub play_first-requires-clause-leaders : goal.play_first-requires-clause-leaders
+play_first-requires-clause-leaders g c = c.deref-in-loop-i.ensures.value ∙ c.in_ok-leaders.ensures
+
+pub play_first-requires-clause-places : goal.play_first-requires-clause-places
+play_first-requires-clause-places g c = ap length c.deref_mut.ensures.value
+    ∙ places (not (g.row.WEIGHED == 0)) c.args.calibration.now c.args.inputs.now c.loop-i.i _ _ _ c.loop-i.invariant.goes
 
 -- a run whose group was played
 pub loop-i-preserved-then-index-i : goal.loop-i-preserved-then-index-i

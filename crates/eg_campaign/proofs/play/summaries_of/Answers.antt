@@ -1,8 +1,13 @@
 use Rattle.std.proofs.Common.{◌∙◌, sym, ap, ap₂, [], ◌∷◌, ◌++◌, map}
 use Rattle.std.proofs.lemmas.List.{take_all}
 use Rattle.eg_campaign.specs.Plays.{report_with}
-use Rattle.eg_campaign.proofs.PlayLemmas.{map-more}
+use Rattle.eg_campaign.specs.Groups.{told_with}
+use Rattle.eg_campaign.proofs.PlayLemmas.{map-more, mapped-at}
 use Rattle.eg_campaign.proofs.play.summaries_of.Goals as goal
+
+pub report_one-requires : goal.report_one-requires
+report_one-requires c =
+    mapped-at (told_with c.args.calibration.now) c.args.inputs.now c.args.told.now c.requires c.loop-i.i c.index-inputs-i.result _ c.loop-i-test.true c.index-inputs-i.is
 
 pub loop-i-init : goal.loop-i-init
 loop-i-init c = c.new-summaries.ensures.items

@@ -18,7 +18,7 @@ returns-in_err-shared-clause-counted g c = counted_err _ _ _ _ c.from_residual.e
 
 pub loop-fault-init : goal.loop-fault-init
 loop-fault-init g c = record {
-  cal = c.bench-played.ensures;
+  cal = c.in_ok-shared.ensures.bench;
   facts = c.new-facts.ensures.items;
   counts = more _ _ _ _ _ _
       (begun c.args.steps.now (rows_under g.E.BenchedEngine.bench c.args.calibration.now c.args.input.now c.args.faults.now) c.count_none.ensures) c.in_ok-shared.ensures.counted;
