@@ -17,13 +17,11 @@ use Rattle.eg_fault.specs.declared.paths.TheConstants.{PATH_1, PATH_2}
 use Rattle.eg_fault.proofs.NameLemmas.{by_name}
 use Rattle.eg_model.specs.Lapses.{IsLapse}
 use Rattle.eg_model.specs.Reaction.{reacts_at_once, spoils_answers}
-use Rattle.eg_model.proofs.EngineLaws.{keeps_of, shows_one_load_of}
 use Rattle.eg_laws.specs.Findings.{is_flip}
 use Rattle.eg_laws.specs.Coverage.{sends_outside, holds_closed}
 use Rattle.eg_laws.specs.Latent.{always_hides, hides_at_rest}
 use Rattle.eg_laws.specs.SharpUnder.{leaves_readings}
-use Rattle.eg_laws.proofs.LatentRuns.{low_loads_of}
-use Rattle.eg_laws.proofs.LatentRest.{rests_of, diesel_is_calm}
+use Rattle.eg_laws.proofs.KindLaws.{diesel_is_calm}
 use Rattle.eg_laws.proofs.LatentAtRest.{rest_hides}
 use Rattle.eg_laws.proofs.LatentLaws.{readings_apart_hide, far_misses_hide}
 use Rattle.eg_laws.proofs.LatentOffsets.{small_offsets_hide, small_scripts_hide}
@@ -160,27 +158,25 @@ contact_hides _ e = absurd (true≢false (sym e))
 
 pub all_hide : (cal : CalibrationParts) (n : ClassName) → always_hides (swept n) ≡ true → AllHide cal (is_of n)
 all_hide cal n hides accepted f valid one engine =
-    readings_apart_hide (keeps_of engine) (shows_one_load_of engine) (low_loads_of engine) cal accepted f valid
+    readings_apart_hide engine cal accepted f valid
     (as_swept always_hides named_hides n true hides f.class one)
 
 pub all_hide_at_rest : (cal : CalibrationParts) (meant : Class → Bool) → ((c : Class) → meant c ≡ true → hides_at_rest c ≡ true) →
     AllHideAtRest cal meant
 all_hide_at_rest cal meant hides accepted f valid one =
-    rest_hides (keeps_of kind.Diesel) (shows_one_load_of kind.Diesel) (low_loads_of kind.Diesel)
-    (rests_of kind.Diesel) cal accepted
-    (diesel_is_calm cal) f valid (hides f.class one)
+    rest_hides kind.Diesel cal accepted (diesel_is_calm cal) f valid (hides f.class one)
 
 pub small_offsets_stay : SmallOffsetsStay
-small_offsets_stay engine = small_offsets_hide (keeps_of engine) (shows_one_load_of engine) (low_loads_of engine)
+small_offsets_stay = small_offsets_hide
 
 pub small_scripts_stay : SmallScriptsStay
-small_scripts_stay engine = small_scripts_hide (keeps_of engine) (shows_one_load_of engine) (low_loads_of engine)
+small_scripts_stay = small_scripts_hide
 
 pub moves_stay : MovesStay
-moves_stay engine = moves_in_window_hide (keeps_of engine) (shows_one_load_of engine) (low_loads_of engine)
+moves_stay = moves_in_window_hide
 
 pub far_misses_stay : FarMissesStay
-far_misses_stay engine = far_misses_hide (keeps_of engine) (shows_one_load_of engine) (low_loads_of engine)
+far_misses_stay = far_misses_hide
 
 pub lapse_of : (f : Fault) → is_of name.Lapse f.class ≡ true → IsLapse (Some f)
 unfolding is_of name_of class_index

@@ -25,7 +25,7 @@ use Rattle.eg_model.specs.Lapses.{IsLapse}
 use Rattle.eg_model.specs.Reaction.{is_at_once, spoils_answers}
 use Rattle.eg_model.specs.Rows.{record_rows}
 use Rattle.eg_model.specs.Engines.{BenchEngine, KeepsBenchLaws, ShowsOneLoad, bench_of}
-use Rattle.eg_model.proofs.EngineLaws.{keeps_of, shows_one_load_of}
+use Rattle.eg_laws.proofs.KindLaws.{keeps_of, shows_one_load_of}
 use Rattle.eg_model.specs.Bench.{Run}
 use Rattle.eg_model.specs.Records.{IsRun}
 use Rattle.eg_model.proofs.SpanRows.{EndOf, end_of}

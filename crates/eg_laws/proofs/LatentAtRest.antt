@@ -7,8 +7,8 @@ use Rattle.eg_num.specs.Interpolation.{grid_at}
 use Rattle.eg_num.specs.Drive.{DriveRow, driven}
 use Rattle.eg_torque.specs.Permit.{permitted}
 use Rattle.eg_torque.proofs.PermitLemmas.{grid_at-rises}
-use Rattle.eg_plant.specs.PlantParts.{PlantParts}
 use Rattle.eg_plant.specs.Engine.{Shown}
+use Rattle.eg_plant.specs.declared.engine_kind.EngineKind.{EngineKind}
 use Rattle.eg_sensor.specs.Readings.{checked_raise}
 use Rattle.eg_sensor.specs.Brake.{gated}
 use Rattle.eg_sensor.specs.declared.readings.Readings.{Readings}
@@ -23,14 +23,15 @@ use Rattle.eg_fault.proofs.ActingLemmas.{of_class}
 use Rattle.eg_model.specs.History.{Setting, Entry, Tick}
 use Rattle.eg_model.specs.Moments.{is_braking, sensed_at, readings_at}
 use Rattle.eg_model.specs.Spans.{ticks}
-use Rattle.eg_model.specs.Engines.{BenchEngine, KeepsBenchLaws, ShowsOneLoad}
+use Rattle.eg_model.specs.Engines.{bench_of}
 use Rattle.eg_model.specs.Bench.{entries_to}
 use Rattle.eg_model.specs.Reaction.{spoils_answers}
 use Rattle.eg_laws.specs.Latent.{IsCalmAtRest, is_cut_off, hides_at_rest, RestHides}
+use Rattle.eg_laws.proofs.KindLaws.{laws_of, shows_one_load_of}
 use Rattle.eg_laws.proofs.LatentTicks.{GivesNothing, GiveNothing}
-use Rattle.eg_laws.proofs.LatentRuns.{HasLowLoads, still_run, follow_ticks, each_tick, hidden_run}
+use Rattle.eg_laws.proofs.LatentRuns.{still_run, follow_ticks, each_tick, hidden_run}
 use Rattle.eg_laws.proofs.LatentLaws.{agree, SparesAll, answers_of, answers_spared}
-use Rattle.eg_laws.proofs.LatentRest.{StaysAtRest, RestsWith, rest_to}
+use Rattle.eg_laws.proofs.LatentRest.{RestsWith, rest_to}
 
 -- ---- readings at rest ----
 
@@ -190,12 +191,10 @@ spares_class _ hides = absurd (false≢true hides)
 
 -- ---- a tick ----
 
-module _ {E : Type 0} {b : BenchEngine E} (rests : StaysAtRest b) (once : ShowsOneLoad b) (cal : CalibrationParts)
-    (accepted : IsAccepted cal)
-    (calm : IsCalmAtRest b cal) (x : Effects) (moves : MovesNothing x) (e : Entry)
-    (comes : RestsWith b cal (driven 0 calm.speed 0) e) where
+module _ (engine : EngineKind) (cal : CalibrationParts) (accepted : IsAccepted cal) (calm : IsCalmAtRest (bench_of engine) cal)
+    (x : Effects) (moves : MovesNothing x) (e : Entry) (comes : RestsWith (bench_of engine) cal (driven 0 calm.speed 0) e) where
   abbrev load : ℕ
-  load = (b.shows (b.rest cal.plant)).load_1
+  load = ((bench_of engine).shows ((bench_of engine).rest cal.plant)).load_1
 
   sensed : ReadsRest (sensed_at x e) load calm.speed
   unfolding sensed_at readings_under
@@ -206,13 +205,13 @@ module _ {E : Type 0} {b : BenchEngine E} (rests : StaysAtRest b) (once : ShowsO
     plate_2 = ap (λ p. 1000 - x.track 3 (1000 - p)) closed ∙ moves.plate_2;
     load_1 = moves.others 4 _ (omega arith) (omega arith) ∙ ap (λ (s : Shown). s.load_1) comes.shown;
     load_2 = moves.others 5 _ (omega arith) (omega arith) ∙ ap (λ (s : Shown). s.load_2) comes.shown
-        ∙ once.loads (b.rest cal.plant);
+        ∙ (shows_one_load_of engine).loads ((bench_of engine).rest cal.plant);
     speed_1 = moves.others 6 _ (omega arith) (omega arith) ∙ ap (λ (d : DriveRow). d.speed) comes.drive;
     speed_2 = moves.others 7 _ (omega arith) (omega arith) ∙ ap (λ (d : DriveRow). d.speed) comes.drive;
   }
     where
       closed : e.shown.position ≡ 0
-      closed = ap (λ (s : Shown). s.position) comes.shown ∙ rests.closed cal.plant
+      closed = ap (λ (s : Shown). s.position) comes.shown ∙ (laws_of engine).closed cal.plant
 
   read : ReadsRest (readings_at cal x e) load calm.speed
   unfolding readings_at
@@ -241,11 +240,9 @@ module _ {E : Type 0} {b : BenchEngine E} (rests : StaysAtRest b) (once : ShowsO
     torque = no_excess cal accepted (readings_at cal x e) load calm.speed read calm.calm;
   }
 
-module _ {E : Type 0} {b : BenchEngine E} {Keeps : PlantParts → E → Type 0} (keeps : KeepsBenchLaws b Keeps)
-    (once : ShowsOneLoad b)
-    (low : HasLowLoads b Keeps) (rests : StaysAtRest b) where
-  pub rest_hides : RestHides b
-  rest_hides cal accepted calm f valid hides n = hidden_run keeps once low cal accepted f valid d
+module _ (engine : EngineKind) where
+  pub rest_hides : RestHides (bench_of engine)
+  rest_hides cal accepted calm f valid hides n = hidden_run engine cal accepted f valid d
       (omega arith, calm.within, omega arith) refl n each
       (answers_of s h each (follow_ticks s entries) (answers_spared s accepted f valid refl (spares_class f.class hides)))
     where
@@ -259,12 +256,12 @@ module _ {E : Type 0} {b : BenchEngine E} {Keeps : PlantParts → E → Type 0} 
       s = (still_run cal f d n).setting
 
       entries : List Entry
-      entries = entries_to b (still_run cal f d n) n
+      entries = entries_to (bench_of engine) (still_run cal f d n) n
 
       h : List Tick
       h = ticks s entries
 
       each : GiveNothing cal h
-      each = each_tick (RestsWith b cal d) (GivesNothing cal) s
-          (λ e t comes. gives_rest rests once cal accepted calm (effects (Some f) t) (moves t) e comes)
-          entries (rest_to rests cal f (λ t. (moves t).free) d n n (omega arith))
+      each = each_tick (RestsWith (bench_of engine) cal d) (GivesNothing cal) s
+          (λ e t comes. gives_rest engine cal accepted calm (effects (Some f) t) (moves t) e comes)
+          entries (rest_to engine cal f (λ t. (moves t).free) d n n (omega arith))

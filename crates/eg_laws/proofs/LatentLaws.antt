@@ -27,12 +27,12 @@ use Rattle.eg_model.specs.Answers.{with_answer, answers_in, verdict_at, confirms
 use Rattle.eg_model.specs.Paths.{latch2}
 use Rattle.eg_model.specs.Moments.{effective_drive, is_braking, sensed_at, readings_at, moment, moment_in, moments_in, moments_of}
 use Rattle.eg_model.specs.Spans.{ticks}
-use Rattle.eg_model.specs.Engines.{BenchEngine, KeepsBenchLaws, ShowsOneLoad}
+use Rattle.eg_model.specs.Engines.{bench_of}
 use Rattle.eg_model.specs.Bench.{entries_to}
 use Rattle.eg_model.specs.Premises.{Follows}
 use Rattle.eg_model.specs.Branching.{under}
 use Rattle.eg_model.specs.Reaction.{spoils_answers}
-use Rattle.eg_plant.specs.PlantParts.{PlantParts}
+use Rattle.eg_plant.specs.declared.engine_kind.EngineKind.{EngineKind}
 use Rattle.eg_laws.specs.SharpUnder.{leaves_readings}
 use Rattle.eg_laws.specs.Latent.{always_hides, ReadingsApartHide, FarMissesHide, SingleMissesHide}
 use Rattle.eg_model.proofs.TickLemmas.{Each, fields}
@@ -44,7 +44,7 @@ use Rattle.eg_laws.proofs.AvailabilityLaws.{keeps_path_2}
 use Rattle.eg_laws.proofs.SingleMisses.{single_misses_are_spaced}
 use Rattle.eg_laws.proofs.MissTicks.{missed, lapse_tick}
 use Rattle.eg_laws.proofs.LatentTicks.{GivesNothing, GiveNothing, still_after, no_answers_found}
-use Rattle.eg_laws.proofs.LatentRuns.{HasLowLoads, Comes, still_run, follow_ticks, each_tick, come_to, AnswersUnfound, hidden_run}
+use Rattle.eg_laws.proofs.LatentRuns.{Comes, still_run, follow_ticks, each_tick, come_to, AnswersUnfound, hidden_run}
 
 -- ---- the greatest raise ----
 
@@ -228,41 +228,39 @@ answers_always s accepted f valid is hides x h each follows = elim (wild_or_not 
   | inr other ↦ answers_spared s accepted f valid is other x h each follows
 ]
 
-module _ {E : Type 0} {b : BenchEngine E} {Keeps : PlantParts → E → Type 0} (keeps : KeepsBenchLaws b Keeps)
-    (once : ShowsOneLoad b)
-    (low : HasLowLoads b Keeps) where
-  pub readings_apart_hide : ReadingsApartHide b
-  readings_apart_hide cal accepted f valid hides n = hidden_run keeps once low cal accepted f valid loud loud_within refl n each
+module _ (engine : EngineKind) where
+  pub readings_apart_hide : ReadingsApartHide (bench_of engine)
+  readings_apart_hide cal accepted f valid hides n = hidden_run engine cal accepted f valid loud loud_within refl n each
       (answers_of s h each follows (answers_always s accepted f valid refl hides))
     where
       s : Setting
       s = (still_run cal f loud n).setting
 
       h : List Tick
-      h = ticks s (entries_to b (still_run cal f loud n) n)
+      h = ticks s (entries_to (bench_of engine) (still_run cal f loud n) n)
 
       follows : Follows s.fault 0 h
-      follows = follow_ticks s (entries_to b (still_run cal f loud n) n)
+      follows = follow_ticks s (entries_to (bench_of engine) (still_run cal f loud n) n)
 
       each : GiveNothing cal h
       each = each_tick (Comes loud) (GivesNothing cal) s
           (λ e t comes. gives_alike cal accepted e comes (effects (Some f) t)
           (of_class (λ x. ActAlike x no_effects) f act_plain (λ k. act_class f.class k (always-leaves f.class hides)) t))
-          (entries_to b (still_run cal f loud n) n)
-          (come_to keeps once low cal accepted f valid loud loud_within n n (omega arith))
+          (entries_to (bench_of engine) (still_run cal f loud n) n)
+          (come_to engine cal accepted f valid loud loud_within n n (omega arith))
 
-  pub far_misses_hide : FarMissesHide b
-  far_misses_hide cal accepted f valid apart n = hidden_run keeps once low cal accepted f valid loud loud_within refl n each
+  pub far_misses_hide : FarMissesHide (bench_of engine)
+  far_misses_hide cal accepted f valid apart n = hidden_run engine cal accepted f valid loud loud_within refl n each
       (answers_of s h each follows answers)
     where
       s : Setting
       s = (still_run cal f loud n).setting
 
       h : List Tick
-      h = ticks s (entries_to b (still_run cal f loud n) n)
+      h = ticks s (entries_to (bench_of engine) (still_run cal f loud n) n)
 
       follows : Follows s.fault 0 h
-      follows = follow_ticks s (entries_to b (still_run cal f loud n) n)
+      follows = follow_ticks s (entries_to (bench_of engine) (still_run cal f loud n) n)
 
       now : (e : Entry) (t : ℕ) → Comes loud e → GivesNothing cal (record { effects = effects (Some f) t; entry = e })
       now e t comes = elim (lapse_tick (Some f) apart.lapse t) [
@@ -273,8 +271,8 @@ module _ {E : Type 0} {b : BenchEngine E} {Keeps : PlantParts → E → Type 0} 
       ]
 
       each : GiveNothing cal h
-      each = each_tick (Comes loud) (GivesNothing cal) s now (entries_to b (still_run cal f loud n) n)
-          (come_to keeps once low cal accepted f valid loud loud_within n n (omega arith))
+      each = each_tick (Comes loud) (GivesNothing cal) s now (entries_to (bench_of engine) (still_run cal f loud n) n)
+          (come_to engine cal accepted f valid loud loud_within n n (omega arith))
 
       answers : (x : Tick) (before : List Tick) → GiveNothing cal (x ∷ before) → Follows s.fault 0 (x ∷ before) →
           (moment s x.effects x.entry (moments_of s before)).found.answers ≡ false
@@ -292,7 +290,7 @@ module _ {E : Type 0} {b : BenchEngine E} {Keeps : PlantParts → E → Type 0} 
               (record { has = apart.has; lapse = apart.lapse; spaced = apart.spaced (0 + length (x ∷ before)) }) on
               (still_after s accepted (x ∷ before) all).untripped
 
-  pub single_misses_hide : SingleMissesHide b
+  pub single_misses_hide : SingleMissesHide (bench_of engine)
   single_misses_hide cal accepted has onset after every apart valid = far_misses_hide cal accepted
       (record { onset = onset; class = Lapse (after ∷ []) every }) valid (record {
         has = has;

@@ -5,7 +5,7 @@ use Rattle.std.proofs.Math.Nat.{mod-lt, mul-le-mul}
 use Rattle.std.proofs.lemmas.Bool.{or_from, and_left, eqb-true, eqb-false, cases_Bool, cases_lt, le-ltb, lt-ltb, le-leb, lt-leb, leb-true, leb-false, ne_eqb}
 use Rattle.eg_num.specs.Windows.{WeightParts, is_confirmed, greatest}
 use Rattle.eg_num.proofs.CounterLemmas.{greatest-nil, greatest-bad, greatest-good, is_reached-greatest}
-use Rattle.eg_plant.specs.PlantParts.{PlantParts}
+use Rattle.eg_plant.specs.declared.engine_kind.EngineKind.{EngineKind}
 use Rattle.eg_answer.specs.Times.{TimeParts, AreTimes}
 use Rattle.eg_answer.specs.Modules.{modules_before_react, modules}
 use Rattle.eg_answer.specs.Periods.{place_of, is_send_tick, is_in_window, verdict_of, is_wrong}
@@ -25,7 +25,7 @@ use Rattle.eg_model.specs.Signals.{tripped}
 use Rattle.eg_model.specs.Answers.{is_whole, is_undisturbed, whole_since_answer, is_sent, is_good, mark_at, with_answer, answers_in, verdict_at, verdicts_in, confirms_at}
 use Rattle.eg_model.specs.Moments.{moment, moments_of}
 use Rattle.eg_model.specs.Spans.{ticks}
-use Rattle.eg_model.specs.Engines.{BenchEngine, KeepsBenchLaws, ShowsOneLoad}
+use Rattle.eg_model.specs.Engines.{bench_of}
 use Rattle.eg_model.specs.Bench.{entries_to}
 use Rattle.eg_model.specs.Premises.{Follows}
 use Rattle.eg_laws.specs.Latent.{KeepsOneAnswer, MovesInWindowHide}
@@ -37,7 +37,7 @@ use Rattle.eg_model.proofs.SharpCutLaw.{AllGood, usual_mark, right_answer, one_a
 use Rattle.eg_laws.proofs.SharpUnderLaws.{ActAlike, act_class, act_plain}
 use Rattle.eg_laws.proofs.SilentVerdicts.{found_now}
 use Rattle.eg_laws.proofs.LatentTicks.{GivesNothing, GiveNothing, still_after, unfound_after}
-use Rattle.eg_laws.proofs.LatentRuns.{HasLowLoads, Comes, still_run, follow_ticks, each_tick, come_to, AnswersUnfound, hidden_run}
+use Rattle.eg_laws.proofs.LatentRuns.{Comes, still_run, follow_ticks, each_tick, come_to, AnswersUnfound, hidden_run}
 use Rattle.eg_laws.proofs.LatentLaws.{loud, loud_within, gives_alike}
 
 -- ---- answers that come at a place of their period which depends on the period ----
@@ -417,12 +417,10 @@ module _ (P : ℕ → Type 0) (s : Setting) (accepted : IsAccepted s.cal) (f : F
         whole-cons _ _ ((fields s x.effects x.entry (moments_of s h)).whole ∙ ap is_whole is ∙ whole_at (length h)) before.1,
       )
 
-module _ {E : Type 0} {b : BenchEngine E} {Keeps : PlantParts → E → Type 0} (keeps : KeepsBenchLaws b Keeps)
-    (once : ShowsOneLoad b)
-    (low : HasLowLoads b Keeps) where
-  pub moves_in_window_hide : MovesInWindowHide b
+module _ (engine : EngineKind) where
+  pub moves_in_window_hide : MovesInWindowHide (bench_of engine)
   moves_in_window_hide cal accepted onset offset valid from to keeps_one n =
-      hidden_run keeps once low cal accepted f valid loud loud_within refl n each answers
+      hidden_run engine cal accepted f valid loud loud_within refl n each answers
     where
       f : Fault
       f = record { onset = onset; class = Timing offset }
@@ -431,13 +429,13 @@ module _ {E : Type 0} {b : BenchEngine E} {Keeps : PlantParts → E → Type 0} 
       s = (still_run cal f loud n).setting
 
       entries : List Entry
-      entries = entries_to b (still_run cal f loud n) n
+      entries = entries_to (bench_of engine) (still_run cal f loud n) n
 
       h : List Tick
       h = ticks s entries
 
       come : All (Comes loud) entries
-      come = come_to keeps once low cal accepted f valid loud loud_within n n (omega arith)
+      come = come_to engine cal accepted f valid loud loud_within n n (omega arith)
 
       each : GiveNothing cal h
       each = each_tick (Comes loud) (GivesNothing cal) s (λ e t comes. gives_alike cal accepted e comes (effects (Some f) t)

@@ -16,14 +16,14 @@ use Rattle.eg_model.specs.History.{Setting, Entry, Tick}
 use Rattle.eg_model.specs.Moments.{is_braking, sensed_at, readings_at}
 use Rattle.eg_laws.specs.Latent.{CanStayHidden, IsStillTrack, still_reading}
 use Rattle.eg_laws.proofs.LatentTicks.{GivesNothing, GiveNothing}
-use Rattle.eg_laws.proofs.LatentRuns.{HasLowLoads, Comes, still_run, follow_ticks, each_tick, come_to, hidden_run}
+use Rattle.eg_laws.proofs.LatentRuns.{Comes, still_run, follow_ticks, each_tick, come_to, hidden_run}
 use Rattle.eg_laws.proofs.LatentLaws.{loud, loud_within, estimate-most, gives_alike, SparesAll, answers_of, answers_spared}
-use Rattle.eg_plant.specs.PlantParts.{PlantParts}
+use Rattle.eg_plant.specs.declared.engine_kind.EngineKind.{EngineKind}
 use Rattle.eg_fault.specs.Faults.{effects_of, IsValid}
 use Rattle.eg_fault.specs.declared.class.Fault.{Fault}
 use Rattle.eg_fault.proofs.ActingLemmas.{of_class}
 use Rattle.eg_model.specs.Spans.{ticks}
-use Rattle.eg_model.specs.Engines.{BenchEngine, KeepsBenchLaws, ShowsOneLoad}
+use Rattle.eg_model.specs.Engines.{bench_of}
 use Rattle.eg_model.specs.Bench.{entries_to}
 use Rattle.eg_laws.proofs.SharpUnderLaws.{act_plain}
 
@@ -223,21 +223,19 @@ module _ (cal : CalibrationParts) (accepted : IsAccepted cal) (track : ℕ) (rea
 -- ---- a run ----
 
 -- a fault that makes one track read near what it reads soundly at each tick, and spares the answers, can stay hidden
-module _ {E : Type 0} {b : BenchEngine E} {Keeps : PlantParts → E → Type 0} (keeps : KeepsBenchLaws b Keeps)
-    (once : ShowsOneLoad b)
-    (low : HasLowLoads b Keeps) where
+module _ (engine : EngineKind) where
   pub near_hides : (cal : CalibrationParts) → IsAccepted cal → (f : Fault) → IsValid f → SparesAll f.class →
       ((k : ℕ) (e : Entry) → Comes loud e → GivesNothing cal (record { effects = effects_of f.class k; entry = e })) →
-      CanStayHidden b cal f
+      CanStayHidden (bench_of engine) cal f
   near_hides cal accepted f valid spares gives n =
-      hidden_run keeps once low cal accepted f valid loud loud_within refl n each
+      hidden_run engine cal accepted f valid loud loud_within refl n each
       (answers_of s h each (follow_ticks s entries) (answers_spared s accepted f valid refl spares))
     where
       s : Setting
       s = (still_run cal f loud n).setting
 
       entries : List Entry
-      entries = entries_to b (still_run cal f loud n) n
+      entries = entries_to (bench_of engine) (still_run cal f loud n) n
 
       h : List Tick
       h = ticks s entries
@@ -246,4 +244,4 @@ module _ {E : Type 0} {b : BenchEngine E} {Keeps : PlantParts → E → Type 0} 
       each = each_tick (Comes loud) (GivesNothing cal) s
           (λ e t comes. of_class (λ y. GivesNothing cal (record { effects = y; entry = e })) f
           (gives_alike cal accepted e comes no_effects act_plain) (λ k. gives k e comes) t)
-          entries (come_to keeps once low cal accepted f valid loud loud_within n n (omega arith))
+          entries (come_to engine cal accepted f valid loud loud_within n n (omega arith))

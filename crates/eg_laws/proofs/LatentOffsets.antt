@@ -3,15 +3,14 @@ use Rattle.std.proofs.Common.{refl, subst, sym, ℕ, zero, suc, ℤ, pos, negsuc
 use Rattle.std.specs.Prelude.{slice_index}
 use Rattle.std.proofs.lemmas.List.Elements.{All-head, All-tail}
 use Rattle.eg_num.proofs.RisingLemmas.{estimate-rises}
-use Rattle.eg_plant.specs.PlantParts.{PlantParts}
+use Rattle.eg_plant.specs.declared.engine_kind.EngineKind.{EngineKind}
 use Rattle.eg_values.specs.Calibration.{CalibrationParts}
 use Rattle.eg_fault.specs.Faults.{offset_by, in_turn, effects_of, is_lapse, IsValidClass}
 use Rattle.eg_fault.specs.Classes.{may_change_answers}
 use Rattle.eg_fault.specs.declared.class.Class.TheVariants.{Offset, Script}
-use Rattle.eg_model.specs.Engines.{BenchEngine, KeepsBenchLaws, ShowsOneLoad}
+use Rattle.eg_model.specs.Engines.{bench_of}
 use Rattle.eg_model.specs.Reaction.{spoils_answers}
 use Rattle.eg_laws.specs.Latent.{distance_of, rise_of, IsSmallOffset, SmallOffsetsHide, still_reading, IsSmallScript, SmallScriptsHide}
-use Rattle.eg_laws.proofs.LatentRuns.{HasLowLoads}
 use Rattle.eg_laws.proofs.LatentLaws.{SparesAll}
 use Rattle.eg_laws.proofs.LatentNear.{apart, ReadsNear, gives_moved, near_hides}
 
@@ -70,16 +69,14 @@ script_spares track values = record { listed = refl; spares = refl; spoils = ref
 
 -- ---- the laws ----
 
-module _ {E : Type 0} {b : BenchEngine E} {Keeps : PlantParts → E → Type 0} (keeps : KeepsBenchLaws b Keeps)
-    (once : ShowsOneLoad b)
-    (low : HasLowLoads b Keeps) where
-  pub small_offsets_hide : SmallOffsetsHide b
-  small_offsets_hide cal accepted onset track add valid small = near_hides keeps once low cal accepted
+module _ (engine : EngineKind) where
+  pub small_offsets_hide : SmallOffsetsHide (bench_of engine)
+  small_offsets_hide cal accepted onset track add valid small = near_hides engine cal accepted
       (record { onset = onset; class = Offset track add }) valid (offset_spares track add)
       (λ k e comes. unfold effects_of in gives_moved cal accepted track (offset_by add) (offset_near cal track add small) e comes)
 
-  pub small_scripts_hide : SmallScriptsHide b
-  small_scripts_hide cal accepted onset track values valid small = near_hides keeps once low cal accepted
+  pub small_scripts_hide : SmallScriptsHide (bench_of engine)
+  small_scripts_hide cal accepted onset track values valid small = near_hides engine cal accepted
       (record { onset = onset; class = Script track values }) valid (script_spares track values)
       (λ k e comes. unfold effects_of in gives_moved cal accepted track (λ v. in_turn values k)
       (script_near cal track values k some small) e comes)

@@ -1,17 +1,9 @@
 -- Runs at rest: level 1 does nothing, so that the engine stays as it was before its first step.
-use Rattle.std.proofs.Common.{◌≡◌, ◌∙◌, refl, sym, ap, subst, ℕ, zero, suc, ◌+◌, ◌*◌, ◌/◌, ◌≤◌, ◌<◌, Bool, true, false, ◌||◌, List, [], ◌∷◌, All, length, replicate, arith, Option, Some, None, min}
+use Rattle.std.proofs.Common.{◌≡◌, refl, sym, ap, subst, ℕ, zero, suc, ◌+◌, ◌≤◌, ◌<◌, Bool, true, false, ◌||◌, List, [], ◌∷◌, All, length, replicate, arith, Option, Some, None}
 use Rattle.std.specs.Prelude.{if◌then◌else◌, slice_index_or, ◌%◌}
-use Rattle.std.proofs.lemmas.Bool.Decides.{nat_tests}
 use Rattle.std.proofs.lemmas.List.Elements.{All-nil, All-cons}
-use Rattle.eg_num.specs.Arithmetic.{moved_toward}
-use Rattle.eg_num.specs.Interpolation.{curve_at}
 use Rattle.eg_num.specs.Drive.{DriveRow}
-use Rattle.eg_plant.specs.PlantParts.{PlantParts}
-use Rattle.eg_plant.specs.Gasoline.{at_rest, next_plate, next_charge, torque_of, gasoline_step}
 use Rattle.eg_plant.specs.declared.engine_kind.EngineKind.{EngineKind}
-use Rattle.eg_plant.specs.declared.engine_kind.EngineKind.TheVariants as kind
-use Rattle.eg_diesel.specs.Diesel.{Diesel, next_boost, quantity_of, diesel_step}
-use Rattle.eg_diesel.specs.Diesel as of_diesel
 use Rattle.eg_values.specs.Calibration.{CalibrationParts}
 use Rattle.eg_word.specs.World.{View, World, new_world}
 use Rattle.eg_fault.specs.Effects.{Effects}
@@ -24,74 +16,11 @@ use Rattle.eg_host.specs.Slices.{slices_from}
 use Rattle.eg_model.specs.Level1.{last_world, view_in, world_at}
 use Rattle.eg_model.specs.Moments.{moment_in}
 use Rattle.eg_model.specs.Spans.{span_so_far, has_passed, before_at, moment_at, next_after}
-use Rattle.eg_model.specs.Engines.{BenchEngine, gasoline, diesel, bench_of}
+use Rattle.eg_model.specs.Engines.{BenchEngine, state_of, bench_of}
 use Rattle.eg_model.specs.Bench.{Run, no_drive, stepped, engine_after, shown_at, drive_at, slices_at, entry_at, moments_to, entries_to}
 use Rattle.eg_model.proofs.WholeModel.{whole_model}
-use Rattle.eg_laws.specs.Latent.{DieselIsCalm}
+use Rattle.eg_laws.proofs.KindLaws.{laws_of}
 use Rattle.eg_laws.proofs.LatentRuns.{still_run, row_in}
-
--- ---- engines at rest ----
-
--- nothing is commanded to it and it stays at rest, its plate closed
-pub record StaysAtRest {E : Type 0} (b : BenchEngine E) : Type 0 where
-  pub stays : (plant : PlantParts) (on : Bool) → b.step plant (b.rest plant) 0 0 on None ≡ b.rest plant
-  pub closed : (plant : PlantParts) → (b.shows (b.rest plant)).position ≡ 0
-
-no_way : (now step : ℕ) → moved_toward now now step ≡ now
-no_way now step = grind (arith, nat_tests)
-
-none_commanded : (on : Bool) → (if on then min 0 1000 else 0) ≡ 0
-none_commanded true = refl
-none_commanded false = refl
-
-still_plate : (plant : PlantParts) (on : Bool) → next_plate plant 0 0 on None ≡ 0
-unfolding next_plate
-still_plate plant on = ap (λ target. moved_toward 0 target plant.slew) (none_commanded on) ∙ no_way 0 plant.slew
-
-no_torque : (kt charge : ℕ) (on : Bool) → torque_of kt charge 0 on ≡ 0
-unfolding torque_of
-no_torque kt charge true = grind arith
-no_torque kt charge false = refl
-
-gasoline_rests : StaysAtRest gasoline
-unfolding gasoline gasoline_step at_rest next_charge
-gasoline_rests = record {
-  stays = λ plant on. λ i. record {
-    plate = still_plate plant on i;
-    charge = no_way (curve_at plant.charge 0) plant.fill i;
-    torque = (ap (λ charge. torque_of plant.kt charge 0 on) (no_way (curve_at plant.charge 0) plant.fill)
-        ∙ no_torque plant.kt (curve_at plant.charge 0) on) i;
-  };
-  closed = λ plant. refl;
-}
-
-nothing_burns : (plant : PlantParts) (rack boost : ℕ) (on : Bool) → rack ≡ 0 → quantity_of plant rack boost on ≡ 0
-unfolding quantity_of
-nothing_burns plant rack boost false closed = refl
-nothing_burns plant rack boost true closed = omega (arith, closed)
-
-diesel_rests : StaysAtRest diesel
-unfolding diesel diesel_step of_diesel.at_rest next_boost
-diesel_rests = record {
-  stays = λ plant on. λ i. record {
-    rack = still_plate plant on i;
-    boost = no_way 0 plant.fill i;
-    quantity = nothing_burns plant (next_plate plant 0 0 on None) (moved_toward 0 0 plant.fill) on (still_plate plant on) i;
-    torque = no_torque plant.kt (quantity_of plant (next_plate plant 0 0 on None) (moved_toward 0 0 plant.fill) on) on i;
-  };
-  closed = λ plant. refl;
-}
-
-pub rests_of : (engine : EngineKind) → StaysAtRest (bench_of engine)
-rests_of kind.Gasoline = gasoline_rests
-rests_of kind.Diesel = diesel_rests
-
-pub diesel_is_calm : DieselIsCalm
-unfolding diesel of_diesel.at_rest
-diesel_is_calm cal = record { speed = 0; within = omega arith; calm = small (0 * cal.rules.kt) _ (omega arith) }
-  where
-    small : (n permitted : ℕ) → n ≡ 0 → min 65535 ((n + 999) / 1000) ≤ permitted
-    small n permitted none = omega arith
 
 -- ---- level 1 does nothing ----
 
@@ -143,8 +72,11 @@ pub record RestsWith {E : Type 0} (b : BenchEngine E) (cal : CalibrationParts) (
   pub drive : e.drive ≡ d
   pub shown : e.shown ≡ b.shows (b.rest cal.plant)
 
-module _ {E : Type 0} {b : BenchEngine E} (rests : StaysAtRest b) (cal : CalibrationParts) (f : Fault)
+module _ (engine : EngineKind) (cal : CalibrationParts) (f : Fault)
     (free : (t : ℕ) → (effects (Some f) t).held_plate ≡ None) (d : DriveRow) (n : ℕ) where
+  abbrev b : BenchEngine (state_of engine)
+  b = bench_of engine
+
   abbrev r : Run
   r = still_run cal f d n
 
@@ -168,15 +100,15 @@ module _ {E : Type 0} {b : BenchEngine E} (rests : StaysAtRest b) (cal : Calibra
           first t = omega arith
 
   -- and so the engine stays at rest
-  step_rests : (t : ℕ) (engine : E) (past : List Moment) (on : Bool) → engine ≡ b.rest cal.plant → IsIdle (last_world past) →
-      stepped b cal.plant engine past on (effects (Some f) t).held_plate ≡ b.rest cal.plant
+  step_rests : (t : ℕ) (e : state_of engine) (past : List Moment) (on : Bool) → e ≡ b.rest cal.plant → IsIdle (last_world past) →
+      stepped b cal.plant e past on (effects (Some f) t).held_plate ≡ b.rest cal.plant
   unfolding stepped
-  step_rests t engine past on rest idle = go engine (last_world past).throttle
+  step_rests t e past on rest idle = go e (last_world past).throttle
       (last_world past).ignition _ rest idle.throttle idle.ignition (free t)
     where
-      go : (e : E) (throttle ignition : ℕ) (held : Option ℕ) → e ≡ b.rest cal.plant → throttle ≡ 0 → ignition ≡ 0 → held ≡ None →
+      go : (e : state_of engine) (throttle ignition : ℕ) (held : Option ℕ) → e ≡ b.rest cal.plant → throttle ≡ 0 → ignition ≡ 0 → held ≡ None →
           b.step cal.plant e throttle ignition on held ≡ b.rest cal.plant
-      go e throttle ignition held u v w x = rw (u, v, w, x) (rests.stays cal.plant on)
+      go e throttle ignition held u v w x = rw (u, v, w, x) ((laws_of engine).rests cal.plant on)
 
   rests_after : (t : ℕ) → engine_after b r.setting (moments_to b r t) ≡ b.rest cal.plant
   unfolding moments_to engine_after
@@ -205,7 +137,7 @@ module _ {E : Type 0} {b : BenchEngine E} (rests : StaysAtRest b) (cal : Calibra
       past : List Moment
       past = moments_to b r t
 
-  pub rest_to : (m : ℕ) → m ≤ n → All (RestsWith b cal d) (entries_to b r m)
+  pub rest_to : (m : ℕ) → m ≤ n → All (RestsWith (bench_of engine) cal d) (entries_to (bench_of engine) r m)
   unfolding entries_to
   rest_to zero l = All-nil (RestsWith b cal d)
   rest_to (suc t) l = All-cons (RestsWith b cal d) (entry_at b r t (moments_to b r t)) (entries_to b r t)

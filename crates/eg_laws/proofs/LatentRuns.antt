@@ -6,9 +6,7 @@ use Rattle.std.proofs.lemmas.List.{length-replicate}
 use Rattle.std.proofs.lemmas.List.Elements.{All-nil, All-cons, All-head, All-tail, All-replicate}
 use Rattle.eg_num.specs.Drive.{DriveRow, IsDrive}
 use Rattle.eg_num.specs.declared.watches.Watches.{Watches}
-use Rattle.eg_plant.specs.PlantParts.{PlantParts}
 use Rattle.eg_plant.specs.declared.engine_kind.EngineKind.{EngineKind}
-use Rattle.eg_plant.specs.declared.engine_kind.EngineKind.TheVariants as kind
 use Rattle.eg_values.specs.Calibration.{CalibrationParts, IsAccepted}
 use Rattle.eg_fault.specs.Faults.{effects, IsValid, IsNoneOrValid}
 use Rattle.eg_fault.specs.declared.class.Fault.{Fault}
@@ -21,30 +19,18 @@ use Rattle.eg_model.specs.Paths.{both_conduct}
 use Rattle.eg_model.specs.Moments.{moment, moments_of}
 use Rattle.eg_model.specs.Level1.{last_world}
 use Rattle.eg_model.specs.Spans.{before_at, kind_at, ticks}
-use Rattle.eg_model.specs.Engines.{BenchEngine, IsOneLoad, ShowsOneLoad, KeepsBenchLaws, gasoline, diesel, bench_of}
+use Rattle.eg_model.specs.Engines.{BenchEngine, IsOneLoad, state_of, bench_of}
 use Rattle.eg_model.specs.Bench.{Run, no_drive, stepped, shown_at, drive_at, entry_at, moments_to, entries_to, engine_after}
 use Rattle.eg_model.specs.Rows.{row_of, rows_of, record_rows}
 use Rattle.eg_model.specs.Records.{IsRun}
 use Rattle.eg_model.specs.Premises.{Follows}
 use Rattle.eg_laws.specs.Latent.{FindsNothing, HiddenRun}
 use Rattle.eg_model.proofs.TickLemmas.{Each, Pair, Pedal, Plate, Load, Speed, found_by}
-use Rattle.eg_model.proofs.EngineLaws.{kept_of}
 use Rattle.eg_model.proofs.RecordTicks.{records_are_histories}
 use Rattle.eg_model.proofs.SpanLemmas.{length-ticks}
 use Rattle.eg_model.proofs.StartUpLaws.{runs_without_reset}
+use Rattle.eg_laws.proofs.KindLaws.{laws_of, keeps_of, shows_one_load_of}
 use Rattle.eg_laws.proofs.LatentTicks.{GiveNothing, Unfound, unfound_after}
-
--- ---- the loads that an engine shows ----
-
--- no load is more than 1000
-pub record HasLowLoads {E : Type 0} (b : BenchEngine E) (Keeps : PlantParts → E → Type 0) : Type 0 where
-  pub low : (plant : PlantParts) (e : E) → Keeps plant e → (b.shows e).load_1 ≤ 1000
-
-pub low_loads_of : (engine : EngineKind) → HasLowLoads (bench_of engine) (kept_of engine)
-low_loads_of kind.Gasoline = unfold gasoline in record { low = λ plant g kept. kept.charge }
-low_loads_of kind.Diesel = unfold diesel in record {
-  low = λ plant d kept. let metered = kept.metered in let rack = kept.rack in omega (arith, metered, rack);
-}
 
 -- ---- the run ----
 
@@ -67,11 +53,11 @@ row_in d other zero t l = absurd (omega (arith, l))
 row_in d other (suc n) zero l = refl
 row_in d other (suc n) (suc t) l = row_in d other n t (omega (arith, l))
 
-module _ {E : Type 0} {b : BenchEngine E} {Keeps : PlantParts → E → Type 0} (keeps : KeepsBenchLaws b Keeps)
-    (once : ShowsOneLoad b)
-    (low : HasLowLoads b Keeps) (cal : CalibrationParts) (accepted : IsAccepted cal) (f : Fault) (valid : IsValid f)
-    (d : DriveRow)
+module _ (engine : EngineKind) (cal : CalibrationParts) (accepted : IsAccepted cal) (f : Fault) (valid : IsValid f) (d : DriveRow)
     (within : IsDrive d) (n : ℕ) where
+  abbrev b : BenchEngine (state_of engine)
+  b = bench_of engine
+
   abbrev r : Run
   r = still_run cal f d n
 
@@ -79,24 +65,24 @@ module _ {E : Type 0} {b : BenchEngine E} {Keeps : PlantParts → E → Type 0} 
   proper_run = record { accepted = accepted; drive = All-replicate IsDrive n d within }
 
   -- a step under the fault keeps what the engine keeps
-  kept_step : (t : ℕ) (engine : E) (past : List Moment) (on : Bool) → Keeps cal.plant engine →
-      Keeps cal.plant (stepped b cal.plant engine past on (effects (Some f) t).held_plate)
+  kept_step : (t : ℕ) (e : state_of engine) (past : List Moment) (on : Bool) → (laws_of engine).Keeps cal.plant e →
+      (laws_of engine).Keeps cal.plant (stepped b cal.plant e past on (effects (Some f) t).held_plate)
   unfolding stepped
-  kept_step t engine past on kept = keeps.goes_on cal.plant engine kept (last_world past).throttle (last_world past).ignition on _
+  kept_step t e past on kept = (keeps_of engine).goes_on cal.plant e kept (last_world past).throttle (last_world past).ignition on _
       (plates_are_held_within (Some f) (unfold IsNoneOrValid in valid) t)
 
-  kept_at : (past : List Moment) → Keeps cal.plant (engine_after b r.setting past)
+  kept_at : (past : List Moment) → (laws_of engine).Keeps cal.plant (engine_after b r.setting past)
   unfolding engine_after
-  kept_at [] = keeps.at_first cal.plant accepted.plant
+  kept_at [] = (keeps_of engine).at_first cal.plant accepted.plant
   kept_at (m ∷ past) = kept_step (length past) (engine_after b r.setting past) _ _ (kept_at past)
 
   comes_at : (t : ℕ) → t < n → Comes d (entry_at b r t (moments_to b r t))
   unfolding entry_at drive_at shown_at
   comes_at t l = record {
     drive = row_in d no_drive n t l;
-    position = (keeps.laws cal.plant _ kept).position;
-    load = low.low cal.plant _ kept;
-    one = once.loads _;
+    position = ((keeps_of engine).laws cal.plant _ kept).position;
+    load = (laws_of engine).low cal.plant _ kept;
+    one = (shows_one_load_of engine).loads _;
   }
     where
       past : List Moment
@@ -105,7 +91,7 @@ module _ {E : Type 0} {b : BenchEngine E} {Keeps : PlantParts → E → Type 0} 
       before : List Moment
       before = before_at (drive_at r t) past
 
-      kept : Keeps cal.plant (stepped b cal.plant (engine_after b r.setting past) before
+      kept : (laws_of engine).Keeps cal.plant (stepped b cal.plant (engine_after b r.setting past) before
           (drives (kind_at (drive_at r t) past) && both_conduct (effects (Some f) t) before) (effects (Some f) t).held_plate)
       kept = kept_step t (engine_after b r.setting past) _ _ (kept_at past)
 
@@ -166,17 +152,14 @@ rows_hidden s accepted (x ∷ h) each answers = All-cons FindsNothing _ _
 
 -- ---- so the fault can stay hidden ----
 
-module _ {E : Type 0} {b : BenchEngine E} {Keeps : PlantParts → E → Type 0} (keeps : KeepsBenchLaws b Keeps)
-    (once : ShowsOneLoad b)
-    (low : HasLowLoads b Keeps) (cal : CalibrationParts) (accepted : IsAccepted cal) (f : Fault) (valid : IsValid f)
-    (d : DriveRow)
+module _ (engine : EngineKind) (cal : CalibrationParts) (accepted : IsAccepted cal) (f : Fault) (valid : IsValid f) (d : DriveRow)
     (within : IsDrive d) (quiet : d.reset ≡ false) where
   abbrev of_run : ℕ → List Tick
-  of_run n = ticks (still_run cal f d n).setting (entries_to b (still_run cal f d n) n)
+  of_run n = ticks (still_run cal f d n).setting (entries_to (bench_of engine) (still_run cal f d n) n)
 
-  never_reset : (n : ℕ) → All (λ e. e.drive.reset ≡ false) (entries_to b (still_run cal f d n) n)
-  never_reset n = go (entries_to b (still_run cal f d n) n)
-      (come_to keeps once low cal accepted f valid d within n n (omega arith))
+  never_reset : (n : ℕ) → All (λ e. e.drive.reset ≡ false) (entries_to (bench_of engine) (still_run cal f d n) n)
+  never_reset n = go (entries_to (bench_of engine) (still_run cal f d n) n)
+      (come_to engine cal accepted f valid d within n n (omega arith))
     where
       go : (h : List Entry) → All (Comes d) h → All (λ e. e.drive.reset ≡ false) h
       go [] all = All-nil (λ e. e.drive.reset ≡ false)
@@ -184,10 +167,10 @@ module _ {E : Type 0} {b : BenchEngine E} {Keeps : PlantParts → E → Type 0} 
           (ap (λ (row : DriveRow). row.reset) (All-head (Comes d) e h all).drive ∙ quiet) (go h (All-tail (Comes d) e h all))
 
   pub hidden_run : (n : ℕ) → GiveNothing cal (of_run n) →
-      AnswersUnfound (still_run cal f d n).setting (of_run n) → HiddenRun b cal f n
+      AnswersUnfound (still_run cal f d n).setting (of_run n) → HiddenRun (bench_of engine) cal f n
   hidden_run n each answers = record {
     run = r;
-    proper = proper_run keeps once low cal accepted f valid d within n;
+    proper = proper_run engine cal accepted f valid d within n;
     cal_is = refl;
     fault_is = refl;
     size = length-replicate n d;
@@ -198,6 +181,6 @@ module _ {E : Type 0} {b : BenchEngine E} {Keeps : PlantParts → E → Type 0} 
       r : Run
       r = still_run cal f d n
 
-      rows_are : record_rows b r ≡ rows_of (moments_of r.setting (of_run n))
-      rows_are = unfold record_rows in ap (λ k. rows_of (moments_to b r k)) (length-replicate n d)
-          ∙ ap rows_of (records_are_histories b r n ∙ runs_without_reset r.setting (entries_to b r n) (never_reset n))
+      rows_are : record_rows (bench_of engine) r ≡ rows_of (moments_of r.setting (of_run n))
+      rows_are = unfold record_rows in ap (λ k. rows_of (moments_to (bench_of engine) r k)) (length-replicate n d)
+          ∙ ap rows_of (records_are_histories (bench_of engine) r n ∙ runs_without_reset r.setting (entries_to (bench_of engine) r n) (never_reset n))

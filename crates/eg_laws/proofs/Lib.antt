@@ -26,6 +26,7 @@ pub mod BurstLaws
 pub mod StretchRows
 pub mod BurstRows
 pub mod BurstRuns
+pub mod KindLaws
 pub mod PeakLaws
 pub mod RampLaws
 pub mod LimitLaws

@@ -6,7 +6,7 @@ use Rattle.std.proofs.lemmas.Bool.{cases_Bool, le-ltb}
 use Rattle.std.proofs.lemmas.List.Elements.{All-nil, All-cons, All-head, All-tail}
 use Rattle.eg_num.specs.Windows.{greatest_of}
 use Rattle.eg_answer.specs.Times.{test_ticks_of}
-use Rattle.eg_plant.specs.PlantParts.{PlantParts}
+use Rattle.eg_plant.specs.declared.engine_kind.EngineKind.{EngineKind}
 use Rattle.eg_torque.specs.Excess.{is_excess}
 use Rattle.eg_values.specs.Excess.{ticks_to_confirm, longest_stretch}
 use Rattle.eg_fault.specs.Faults.{IsNoneOrValid}
@@ -16,18 +16,19 @@ use Rattle.eg_record.specs.Facts.{facts_of}
 use Rattle.eg_record.specs.Spans.{this_span, spans_of, EachDriveSpan, EachTestSpan}
 use Rattle.eg_record.proofs.SpanLemmas.{this_span-span}
 use Rattle.eg_record.proofs.StretchLemmas.{stretch_of-more}
-use Rattle.eg_model.specs.Engines.{BenchEngine, KeepsBenchLaws}
+use Rattle.eg_model.specs.Engines.{BenchEngine, state_of, bench_of}
 use Rattle.eg_model.specs.Bench.{Run}
 use Rattle.eg_model.specs.Rows.{record_rows}
 use Rattle.eg_model.specs.Records.{IsRun, AreOff}
 use Rattle.eg_laws.proofs.FindingReports.{FirstBegins, first_begins, SpanOf, span_of}
 use Rattle.eg_laws.proofs.InTimeLaws.{records_react_in_time}
+use Rattle.eg_laws.proofs.KindLaws.{keeps_of}
 use Rattle.eg_model.proofs.PowerCycleLaws.{records_begin_in_turn}
 use Rattle.eg_model.proofs.RecordLaws.{records_test_unpowered}
 use Rattle.eg_laws.proofs.ShowingLaws.{records_show_runs}
 use Rattle.eg_laws.specs.Stretches.{AllExcess, RowsEndStretches}
 use Rattle.eg_laws.specs.Limits.{RecordsKeepLimits}
-use Rattle.eg_laws.proofs.PeakLaws.{GivesAtMost, all_below}
+use Rattle.eg_laws.proofs.PeakLaws.{all_below}
 use Rattle.eg_laws.proofs.StretchLaws.{at_once_always}
 use Rattle.eg_laws.proofs.StretchRows.{records_end_stretches, records_end_stretches_at_once}
 
@@ -131,25 +132,29 @@ module _ (t longest : ℕ) (whole : List Row) (first : FirstBegins whole) (drive
 
 -- ---- each record ----
 
-module _ {E : Type 0} {b : BenchEngine E} {Keeps Within : PlantParts → E → Type 0} (keeps : KeepsBenchLaws b Keeps)
-    (gives : GivesAtMost b Within) where
+module _ (engine : EngineKind) where
+  abbrev b : BenchEngine (state_of engine)
+  b = bench_of engine
+
   stretch_within : (r : Run) → IsRun r → IsNoneOrValid r.setting.fault → (longest : ℕ) →
       EachDriveSpan (RowsEndStretches r.setting.cal.rules.threshold longest) (record_rows b r) →
       stretch_of r.setting.cal.rules.threshold (record_rows b r) ≤ longest
   stretch_within r run valid longest ends = all_end r.setting.cal.rules.threshold longest (record_rows b r)
       (first_begins (test_ticks_of r.setting.cal.times) (record_rows b r) (records_begin_in_turn b r)) ends
-      (records_test_unpowered b r) [] (record_rows b r) refl (records_show_runs keeps r run valid).no_torque
+      (records_test_unpowered b r) [] (record_rows b r) refl (records_show_runs (keeps_of engine) r run valid).no_torque
 
-  pub records_keep_limits : RecordsKeepLimits b
+  pub records_keep_limits : RecordsKeepLimits (bench_of engine)
   unfolding facts_of
   records_keep_limits r run valid = record {
-    reaction = records_react_in_time keeps r run;
-    stretch = λ listed. stretch_within r run valid (longest_stretch r.setting.cal) (records_end_stretches keeps r run listed);
+    reaction = records_react_in_time (keeps_of engine) r run;
+    stretch = λ listed. stretch_within r run valid (longest_stretch r.setting.cal)
+        (records_end_stretches (keeps_of engine) r run listed);
     at_once = λ listed always. stretch_within r run valid (ticks_to_confirm r.setting.cal)
-        (λ newer span older e is later stretch before parts. records_end_stretches_at_once keeps r run listed newer span older e is
-        later stretch before parts (at_once_always r.setting.fault always _ _ _));
+        (λ newer span older e is later stretch before parts.
+        records_end_stretches_at_once (keeps_of engine) r run listed newer span older e is later stretch before parts
+        (at_once_always r.setting.fault always _ _ _));
     peak =
-        let shows = records_show_runs keeps r run valid in
-        let below = all_below gives r.setting run.accepted (record_rows b r) shows.engine shows.permitted in
+        let shows = records_show_runs (keeps_of engine) r run valid in
+        let below = all_below engine r.setting run.accepted (record_rows b r) shows.engine shows.permitted in
         omega (arith, below);
   }

@@ -1,19 +1,12 @@
 -- Throttles that never cut: the engine's load stays below what they can bring it to, and so no excess is ever confirmed.
-use Rattle.std.proofs.Common.{◌≡◌, ◌∙◌, refl, sym, ap, subst, ℕ, zero, suc, ◌+◌, ◌≤◌, Bool, true, false, not, List, [], ◌∷◌, ◌++◌, All, map, arith, inl, inr, None, min, max}
+use Rattle.std.proofs.Common.{◌≡◌, ◌∙◌, refl, sym, ap, subst, ℕ, ◌+◌, ◌≤◌, Bool, true, false, not, List, [], ◌∷◌, ◌++◌, All, map, arith, None}
 use Rattle.std.specs.Prelude.{if◌then◌else◌}
-use Rattle.std.proofs.lemmas.Bool.{cases_lt, le-ltb}
+use Rattle.std.proofs.lemmas.Bool.{le-ltb}
 use Rattle.std.proofs.lemmas.List.Elements.{All-nil, All-cons, All-head, All-tail}
 use Rattle.eg_num.specs.Arithmetic.{estimate}
-use Rattle.eg_num.specs.Interpolation.{curve_at}
 use Rattle.eg_num.proofs.RisingLemmas.{estimate-rises}
 use Rattle.eg_torque.specs.Excess.{is_excess}
-use Rattle.eg_plant.specs.PlantParts.{PlantParts}
-use Rattle.eg_plant.specs.Gasoline.{Gasoline, at_rest, next_plate, next_charge, gasoline_step}
 use Rattle.eg_plant.specs.declared.engine_kind.EngineKind.{EngineKind}
-use Rattle.eg_plant.specs.declared.engine_kind.EngineKind.TheVariants as kind
-use Rattle.eg_plant.proofs.PlantLemmas.{moved_toward-most}
-use Rattle.eg_diesel.specs.Diesel.{Diesel, next_boost, quantity_of, diesel_step}
-use Rattle.eg_diesel.specs.Diesel as of_diesel
 use Rattle.eg_values.specs.Calibration.{IsAccepted}
 use Rattle.eg_values.specs.Excess.{least_permitted}
 use Rattle.eg_fault.specs.Effects.{no_effects}
@@ -22,101 +15,19 @@ use Rattle.eg_record.specs.declared.row.Row.{Row}
 use Rattle.eg_record.specs.Excess.{full_excess}
 use Rattle.eg_record.specs.Spans.{IsDriveSpan}
 use Rattle.eg_model.specs.History.{Setting}
-use Rattle.eg_model.specs.Engines.{BenchEngine, gasoline, diesel, state_of, bench_of}
+use Rattle.eg_model.specs.Engines.{bench_of}
 use Rattle.eg_model.specs.Bench.{Run}
 use Rattle.eg_model.specs.Rows.{record_rows}
 use Rattle.eg_model.specs.Records.{IsRun, is_before_onset}
 use Rattle.eg_laws.specs.Showing.{commands_at, engine_by, limit_before, ArePermitted, ShowEngine, ShowsRun}
-use Rattle.eg_laws.specs.NeverCuts.{charge_up_to, load_up_to, IsPermittedUpTo, PermittedThrottlesNeverCut}
+use Rattle.eg_laws.specs.NeverCuts.{load_up_to, IsPermittedUpTo, PermittedThrottlesNeverCut}
 use Rattle.eg_model.proofs.SharpCutLaw.{AllGood}
-use Rattle.eg_model.proofs.EngineLaws.{keeps_of, shows_one_load_of}
 use Rattle.eg_model.proofs.RecordLaws.{records_cut_sharply_before}
 use Rattle.eg_laws.proofs.FewVerdicts.{never}
+use Rattle.eg_laws.proofs.KindLaws.{laws_of, keeps_of, shows_one_load_of}
 use Rattle.eg_laws.proofs.PairsFoundLaws.{All-end}
 use Rattle.eg_laws.proofs.PeakLaws.{limit-least}
 use Rattle.eg_laws.proofs.ShowingLaws.{records_show_runs}
-
--- ---- the load of an engine ----
-
--- no charge of an angle up to x is more
-up_to_covers : (plant : PlantParts) (x y : ℕ) → y ≤ x → curve_at plant.charge y ≤ charge_up_to plant x
-unfolding charge_up_to
-up_to_covers plant zero y l = subst (λ n. curve_at plant.charge n ≤ curve_at plant.charge 0) none (omega arith)
-  where
-    none : 0 ≡ y
-    none = omega (arith, l)
-up_to_covers plant (suc x) y l = elim (cases_lt x y) [
-  | inl last ↦ subst (λ n. curve_at plant.charge n ≤ max (charge_up_to plant x) (curve_at plant.charge (suc x))) (at last)
-      (omega arith)
-  | inr before ↦ (let less = up_to_covers plant x y before in omega (arith, less))
-]
-  where
-    at : suc x ≤ y → suc x ≡ y
-    at last = omega (arith, last, l)
-
--- What an engine brings: a statement about a state that stays true while its throttle stays at x or below, and by which it
--- shows no greater load.
-record StaysBelow {E : Type 0} (b : BenchEngine E) (most : PlantParts → ℕ → ℕ)
-    (Below : PlantParts → ℕ → E → Type 0) : Type 0 where
-  pub at_first : (plant : PlantParts) (x : ℕ) → Below plant x (b.rest plant)
-  pub goes_on : (plant : PlantParts) (x : ℕ) (e : E) → Below plant x e → (throttle ignition : ℕ) (on : Bool) → throttle ≤ x →
-      Below plant x (b.step plant e throttle ignition on None)
-  pub load : (plant : PlantParts) (x : ℕ) (e : E) → Below plant x e → (b.shows e).load_1 ≤ most plant x
-
-next_plate-below : (plant : PlantParts) (x plate throttle : ℕ) (on : Bool) → plate ≤ x → throttle ≤ x →
-    next_plate plant plate throttle on None ≤ x
-unfolding next_plate
-next_plate-below plant x plate throttle on low few = moved_toward-most x plate _ plant.slew low (commanded on)
-  where
-    commanded : (b : Bool) → (if b then min throttle 1000 else 0) ≤ x
-    commanded true = omega (arith, few)
-    commanded false = omega arith
-
-record GasolineBelow (plant : PlantParts) (x : ℕ) (g : Gasoline) : Type 0 where
-  pub plate : g.plate ≤ x
-  pub charge : g.charge ≤ charge_up_to plant x
-
-gasoline_below : StaysBelow gasoline (load_up_to kind.Gasoline) GasolineBelow
-unfolding gasoline at_rest gasoline_step next_charge load_up_to
-gasoline_below = record {
-  at_first = λ plant x. record { plate = omega arith; charge = up_to_covers plant x 0 (omega arith) };
-  goes_on = λ plant x g below throttle ignition on few. record {
-    plate = next_plate-below plant x g.plate throttle on below.plate few;
-    charge = moved_toward-most (charge_up_to plant x) g.charge _ plant.fill below.charge
-        (up_to_covers plant x g.plate below.plate);
-  };
-  load = λ plant x g below. below.charge;
-}
-
-record DieselBelow (plant : PlantParts) (x : ℕ) (d : Diesel) : Type 0 where
-  pub rack : d.rack ≤ x
-  pub boost : d.boost ≤ x
-  pub quantity : d.quantity ≤ min x (charge_up_to plant x)
-
-burnt-below : (plant : PlantParts) (x rack boost : ℕ) (on : Bool) → rack ≤ x → boost ≤ x →
-    quantity_of plant rack boost on ≤ min x (charge_up_to plant x)
-unfolding quantity_of
-burnt-below plant x rack boost false low few = omega arith
-burnt-below plant x rack boost true low few = let smoke = up_to_covers plant x boost few in omega (arith, low, smoke)
-
-diesel_below : StaysBelow diesel (load_up_to kind.Diesel) DieselBelow
-unfolding diesel of_diesel.at_rest diesel_step next_boost load_up_to
-diesel_below = record {
-  at_first = λ plant x. record { rack = omega arith; boost = omega arith; quantity = omega arith };
-  goes_on = λ plant x d below throttle ignition on few.
-      let rack = next_plate-below plant x d.rack throttle on below.rack few in
-      let boost = moved_toward-most x d.boost d.rack plant.fill below.boost below.rack in
-      record { rack = rack; boost = boost; quantity = burnt-below plant x _ _ on rack boost };
-  load = λ plant x d below. below.quantity;
-}
-
-abbrev below_of : (engine : EngineKind) → PlantParts → ℕ → state_of engine → Type 0
-below_of kind.Gasoline = GasolineBelow
-below_of kind.Diesel = DieselBelow
-
-stays_of : (engine : EngineKind) → StaysBelow (bench_of engine) (load_up_to engine) (below_of engine)
-stays_of kind.Gasoline = gasoline_below
-stays_of kind.Diesel = diesel_below
 
 -- ---- the rows of a record ----
 
@@ -133,10 +44,8 @@ good_bits bit [] all = tt
 good_bits bit (row ∷ rows) all =
     (All-head (λ r. bit r ≡ false) row rows all, good_bits bit rows (All-tail (λ r. bit r ≡ false) row rows all))
 
-module _ {E : Type 0} {b : BenchEngine E} {most : PlantParts → ℕ → ℕ} {Below : PlantParts → ℕ → E → Type 0}
-    (stays : StaysBelow b most Below)
-    (s : Setting) (accepted : IsAccepted s.cal) (none : s.fault ≡ None) (x : ℕ)
-    (permitted : estimate s.cal.rules.kt (most s.cal.plant x) ≤ least_permitted s.cal.rules.permit + s.cal.rules.threshold) where
+module _ (engine : EngineKind) (s : Setting) (accepted : IsAccepted s.cal) (none : s.fault ≡ None) (x : ℕ)
+    (permitted : IsPermittedUpTo engine s.cal x) where
   abbrev Low : List Row → Type 0
   Low rows = All (λ row. row.throttle ≤ x) rows
 
@@ -155,13 +64,14 @@ module _ {E : Type 0} {b : BenchEngine E} {most : PlantParts → ℕ → ℕ} {B
   free : (t : ℕ) → (effects s.fault t).held_plate ≡ None
   free t = ap (λ f. (effects f t).held_plate) none ∙ (unfold effects no_effects in refl)
 
-  below : (rows : List Row) → Low rows → Below s.cal.plant x (engine_by b s rows)
+  below : (rows : List Row) → Low rows → (laws_of engine).Below s.cal.plant x (engine_by (bench_of engine) s rows)
   unfolding engine_by
-  below [] low = stays.at_first s.cal.plant x
+  below [] low = (laws_of engine).below_first s.cal.plant x
   below (row ∷ before) low = subst
-      (λ held. Below s.cal.plant x (b.step s.cal.plant (engine_by b s before) (commands_at row before).0
-      (commands_at row before).1 row.on held)) (sym (free row.tick))
-      (stays.goes_on s.cal.plant x (engine_by b s before) (below before rest) _ _ row.on (commands-low row before rest))
+      (λ held. (laws_of engine).Below s.cal.plant x ((bench_of engine).step s.cal.plant (engine_by (bench_of engine) s before)
+      (commands_at row before).0 (commands_at row before).1 row.on held)) (sym (free row.tick))
+      ((laws_of engine).below_next s.cal.plant x (engine_by (bench_of engine) s before) (below before rest) _ _ row.on
+      (commands-low row before rest))
     where
       rest : Low before
       rest = All-tail (λ r. r.throttle ≤ x) row before low
@@ -169,16 +79,16 @@ module _ {E : Type 0} {b : BenchEngine E} {most : PlantParts → ℕ → ℕ} {B
   abbrev bit : Row → Bool
   bit = full_excess s.cal.rules.kt s.cal.rules.threshold
 
-  no_excess : (row : Row) → row.charge ≤ most s.cal.plant x → least_permitted s.cal.rules.permit ≤ row.limit → bit row ≡ false
+  no_excess : (row : Row) → row.charge ≤ load_up_to engine s.cal.plant x → least_permitted s.cal.rules.permit ≤ row.limit → bit row ≡ false
   unfolding full_excess is_excess
   no_excess row few least = le-ltb (row.limit + s.cal.rules.threshold) (estimate s.cal.rules.kt row.charge)
-      (let rises = estimate-rises s.cal.rules.kt row.charge (most s.cal.plant x) few in omega (arith, rises, permitted, least))
+      (let rises = estimate-rises s.cal.rules.kt row.charge (load_up_to engine s.cal.plant x) few in omega (arith, rises, permitted, least))
 
-  none_exceeds : (rows : List Row) → Low rows → ShowEngine b s rows → ArePermitted s.cal rows → All (λ row. bit row ≡ false) rows
+  none_exceeds : (rows : List Row) → Low rows → ShowEngine (bench_of engine) s rows → ArePermitted s.cal rows → All (λ row. bit row ≡ false) rows
   unfolding ArePermitted
   none_exceeds [] low shows limits = All-nil (λ row. bit row ≡ false)
   none_exceeds (row ∷ before) low shows limits = All-cons (λ r. bit r ≡ false) row before
-      (no_excess row (let is = shows.0.charge in let load = stays.load s.cal.plant x (engine_by b s (row ∷ before))
+      (no_excess row (let is = shows.0.charge in let load = (laws_of engine).load s.cal.plant x (engine_by (bench_of engine) s (row ∷ before))
       (below (row ∷ before) low) in
       omega (arith, is, load))
       (limit-least s accepted row (limit_before row before) limits.0))
@@ -204,7 +114,7 @@ module _ (engine : EngineKind) where
       shows = records_show_runs (keeps_of engine) r run (subst IsNoneOrValid (sym none) (unfold IsNoneOrValid in tt))
 
       all : All (λ row. full s row ≡ false) (record_rows (bench_of engine) r)
-      all = none_exceeds (stays_of engine) s run.accepted none x permitted
+      all = none_exceeds engine s run.accepted none x permitted
           (record_rows (bench_of engine) r) low shows.engine shows.permitted
 
       part : (later before : List Row) (row : Row) → span ≡ later ++ row ∷ before → All (λ row. full s row ≡ false) before

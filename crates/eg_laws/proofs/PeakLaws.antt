@@ -1,9 +1,9 @@
 -- How far torque lies above what is permitted and the threshold together at the most: the engines give no more than
 -- the torque of the greatest charge, and no drive row permits less than the least of the first row of the table.
-use Rattle.std.proofs.Common.{◌≡◌, ℕ, zero, suc, inl, inr, ◌+◌, ◌-◌, ◌*◌, ◌/◌, ◌≤◌, ◌<◌, Bool, true, false, nat_le, List, [], ◌∷◌, length, map, take, All, max, min, get_or, refl, ap, ◌∙◌, subst, arith, add-one, Option}
+use Rattle.std.proofs.Common.{◌≡◌, ℕ, zero, suc, inl, inr, ◌+◌, ◌-◌, ◌*◌, ◌≤◌, ◌<◌, Bool, true, false, nat_le, List, [], ◌∷◌, length, map, take, All, max, min, get_or, refl, ap, ◌∙◌, subst, arith, add-one}
 use Rattle.std.specs.Prelude.{if◌then◌else◌, ◌==◌, slice_index}
 use Rattle.std.specs.List.{fold}
-use Rattle.std.proofs.Math.Nat.{div-mul-le_self, div-le_of_le-mul, mul-le-mul}
+use Rattle.std.proofs.Math.Nat.{div-le_of_le-mul}
 use Rattle.std.proofs.lemmas.Nat.{le-div}
 use Rattle.std.proofs.lemmas.Bool.{cases_lt, leb-true, leb-false}
 use Rattle.std.proofs.lemmas.List.{get_or-take, get_or_past, length-take-le}
@@ -14,11 +14,6 @@ use Rattle.eg_num.specs.Interpolation.{Grid, IsGrid, lerp, value_at, cell, row_a
 use Rattle.eg_torque.specs.Permit.{DoesNotFall, drive_permits}
 use Rattle.eg_torque.specs.Ramp.{ramped}
 use Rattle.eg_torque.specs.declared.ramp.TheConstants.{NO_RAMP}
-use Rattle.eg_plant.specs.PlantParts.{PlantParts}
-use Rattle.eg_plant.specs.Gasoline.{Gasoline, at_rest, next_charge, torque_of, gasoline_step}
-use Rattle.eg_plant.proofs.PlantLemmas.{curve_at-most, moved_toward-most}
-use Rattle.eg_diesel.specs.Diesel.{Diesel, quantity_of, diesel_step}
-use Rattle.eg_diesel.specs.Diesel as of_diesel
 use Rattle.eg_values.specs.Calibration.{CalibrationParts, IsAccepted}
 use Rattle.eg_values.specs.Excess.{greatest_torque, least_permitted, greatest_permitted, greatest_excess}
 use Rattle.eg_record.specs.declared.row.Row.{Row}
@@ -26,93 +21,15 @@ use Rattle.eg_record.specs.Excess.{above, peak_of}
 use Rattle.eg_model.specs.History.{Setting}
 use Rattle.eg_model.specs.Moments.{effective_drive, demand_at}
 use Rattle.eg_plant.specs.declared.engine_kind.EngineKind.{EngineKind}
-use Rattle.eg_plant.specs.declared.engine_kind.EngineKind.TheVariants as kind
-use Rattle.eg_model.specs.Engines.{BenchEngine, gasoline, diesel, state_of, bench_of}
+use Rattle.eg_model.specs.Engines.{bench_of}
 use Rattle.eg_laws.specs.Showing.{engine_by, limit_before, ArePermitted, ShowEngine}
+use Rattle.eg_laws.proofs.KindLaws.{laws_of, greatest_covers}
 
--- ---- the torque of an engine ----
+-- ---- what is permitted ----
 
 -- a number lies in a range
 abbrev pub IsWithin : (least most n : ℕ) → Type 0
 IsWithin least most n = (least ≤ n) × (n ≤ most)
-
--- no number is more than the greatest
-greatest_covers : (ns : List ℕ) (n : ℕ) → (n ≤ fold max n ns) × All (λ m. m ≤ fold max n ns) ns
-greatest_covers [] n = (omega arith, All-nil (λ m. m ≤ n))
-greatest_covers (m ∷ ns) n =
-    let rest = greatest_covers ns (max n m) in
-    let here = rest.0 in
-    (omega (arith, here), All-cons (λ k. k ≤ fold max (max n m) ns) m ns (omega (arith, here)) rest.1)
-
--- the greatest charge of a plant
-abbrev greatest_charge : PlantParts → ℕ
-greatest_charge plant = fold max 0 plant.charge.values
-
-charge-most : (plant : PlantParts) (x : ℕ) → value_at plant.charge.axis (slice_index plant.charge.values) x ≤ greatest_charge plant
-charge-most plant x = curve_at-most (greatest_charge plant) plant.charge x (greatest_covers plant.charge.values 0).1
-
--- the torque of a charge that isn't above the greatest
-torque_of-most : (plant : PlantParts) (charge ignition : ℕ) (on : Bool) → charge ≤ greatest_charge plant →
-    torque_of plant.kt charge ignition on ≤ greatest_torque plant
-unfolding torque_of greatest_torque
-torque_of-most plant charge ignition false few = omega arith
-torque_of-most plant charge ignition true few =
-    let same : plant.kt ≤ plant.kt = omega arith in
-    within (charge * plant.kt) (greatest_charge plant * plant.kt) (min ignition 1000) (mul-le-mul few same) (omega arith)
-  where
-    within : (full most efficiency : ℕ) → full ≤ most → efficiency ≤ 1000 → full * efficiency / 1000000 ≤ most / 1000
-    within full most efficiency less low =
-        let scaled : full * efficiency ≤ most * 1000 = mul-le-mul less low in
-        let back = div-mul-le_self (full * efficiency) 1000000 in
-        le-div (full * efficiency / 1000000) most 1000 (omega arith) (omega (arith, scaled, back))
-
--- What an engine brings: a statement about a state that stays true from step to step, by which it shows no more
--- torque than that of the greatest charge.
-pub record GivesAtMost {E : Type 0} (b : BenchEngine E) (Within : PlantParts → E → Type 0) : Type 0 where
-  at_first : (plant : PlantParts) → Within plant (b.rest plant)
-  goes_on : (plant : PlantParts) (e : E) → Within plant e → (throttle ignition : ℕ) (on : Bool) (held : Option ℕ) →
-      Within plant (b.step plant e throttle ignition on held)
-  most : (plant : PlantParts) (e : E) → Within plant e → (b.shows e).torque ≤ greatest_torque plant
-
-pub record GasolineWithin (plant : PlantParts) (g : Gasoline) : Type 0 where
-  charge : g.charge ≤ greatest_charge plant
-  torque : g.torque ≤ greatest_torque plant
-
-gasoline_gives : GivesAtMost gasoline GasolineWithin
-unfolding gasoline at_rest gasoline_step next_charge
-gasoline_gives = record {
-  at_first = λ plant. record { charge = charge-most plant 0; torque = omega arith };
-  goes_on = λ plant g within throttle ignition on held.
-      let charge = moved_toward-most (greatest_charge plant) g.charge _ plant.fill within.charge (charge-most plant g.plate) in
-      record { charge = charge; torque = torque_of-most plant _ ignition on charge };
-  most = λ plant g within. within.torque;
-}
-
-abbrev pub DieselWithin : PlantParts → Diesel → Type 0
-DieselWithin plant d = d.torque ≤ greatest_torque plant
-
-quantity_of-most : (plant : PlantParts) (rack boost : ℕ) (on : Bool) → quantity_of plant rack boost on ≤ greatest_charge plant
-unfolding quantity_of
-quantity_of-most plant rack boost false = omega arith
-quantity_of-most plant rack boost true = let most = charge-most plant boost in omega (arith, most)
-
-diesel_gives : GivesAtMost diesel DieselWithin
-unfolding diesel of_diesel.at_rest diesel_step
-diesel_gives = record {
-  at_first = λ plant. omega arith;
-  goes_on = λ plant d within command ignition on held. torque_of-most plant _ ignition on (quantity_of-most plant _ _ on);
-  most = λ plant d within. within;
-}
-
-abbrev pub within_of : (engine : EngineKind) → PlantParts → state_of engine → Type 0
-within_of kind.Gasoline = GasolineWithin
-within_of kind.Diesel = DieselWithin
-
-pub gives_of : (engine : EngineKind) → GivesAtMost (bench_of engine) (within_of engine)
-gives_of kind.Gasoline = gasoline_gives
-gives_of kind.Diesel = diesel_gives
-
--- ---- what is permitted ----
 
 -- on the line between two points no value lies outside of what both values lie in
 lerp-within : (least most x0 y0 x1 y1 x : ℕ) → x0 < x → x ≤ x1 → IsWithin least most y0 → IsWithin least most y1 →
@@ -243,24 +160,24 @@ module _ (s : Setting) (accepted : IsAccepted s.cal) where
   unfolding above greatest_excess
   above-most row most least = omega (arith, most, least)
 
-module _ {E : Type 0} {b : BenchEngine E} {Within : PlantParts → E → Type 0} (gives : GivesAtMost b Within) (s : Setting)
-    (accepted : IsAccepted s.cal) where
-  within : (rows : List Row) → Within s.cal.plant (engine_by b s rows)
+module _ (engine : EngineKind) (s : Setting) (accepted : IsAccepted s.cal) where
+  within : (rows : List Row) → (laws_of engine).Within s.cal.plant (engine_by (bench_of engine) s rows)
   unfolding engine_by
-  within [] = gives.at_first s.cal.plant
-  within (row ∷ before) = gives.goes_on s.cal.plant (engine_by b s before) (within before) _ _ _ _
+  within [] = (laws_of engine).within_first s.cal.plant
+  within (row ∷ before) = (laws_of engine).within_next s.cal.plant (engine_by (bench_of engine) s before) (within before) _ _ _ _
 
-  pub all_below : (rows : List Row) → ShowEngine b s rows → ArePermitted s.cal rows →
+  pub all_below : (rows : List Row) → ShowEngine (bench_of engine) s rows → ArePermitted s.cal rows →
       peak_of s.cal.rules.threshold rows ≤ greatest_excess s.cal
   unfolding peak_of ArePermitted
   all_below rows shows permitted = greatest_of-most (greatest_excess s.cal) (map (above s.cal.rules.threshold) rows) (each rows shows permitted)
     where
-      each : (rows : List Row) → ShowEngine b s rows → ArePermitted s.cal rows →
+      each : (rows : List Row) → ShowEngine (bench_of engine) s rows → ArePermitted s.cal rows →
           All (λ n. n ≤ greatest_excess s.cal) (map (above s.cal.rules.threshold) rows)
       each [] shows permitted = All-nil (λ n. n ≤ greatest_excess s.cal)
       each (row ∷ before) shows permitted = All-cons (λ n. n ≤ greatest_excess s.cal) (above s.cal.rules.threshold row)
           (map (above s.cal.rules.threshold) before)
           (above-most s accepted row
-          (let is = shows.0.torque in let most = gives.most s.cal.plant (engine_by b s (row ∷ before)) (within (row ∷ before)) in omega (arith, is, most))
+          (let is = shows.0.torque in let most = (laws_of engine).torque s.cal.plant (engine_by (bench_of engine) s (row ∷ before))
+          (within (row ∷ before)) in omega (arith, is, most))
           (limit-least s accepted row (limit_before row before) permitted.0))
           (each before shows.1 permitted.1)

@@ -21,7 +21,6 @@ pub mod RecordSpans
 pub mod RecordLaws
 pub mod PowerCycleLaws
 pub mod GasolineLaws
-pub mod EngineLaws
 pub mod WholeRecord
 pub mod LapseRuns
 pub mod LapseAnswers

@@ -17,11 +17,10 @@ use Rattle.eg_record.specs.Summaries.{summary_of}
 use Rattle.eg_record.proofs.LawLemmas.{detection_law, off_law}
 use Rattle.eg_model.specs.Rows.{report_of, record_trap}
 use Rattle.eg_model.specs.Records.{IsRun}
-use Rattle.eg_model.proofs.EngineLaws.{keeps_of, shows_one_load_of}
+use Rattle.eg_laws.proofs.KindLaws.{keeps_of, shows_one_load_of}
 use Rattle.eg_model.proofs.RecordLaws.{records_react, records_react_at_once, records_cut_sharply, records_cut_sharply_before, records_cut_from_onset, records_cut_standing_excess, records_have_short_excess, records_test_unpowered, records_pass_tests}
 use Rattle.eg_laws.proofs.StretchRows.{records_end_stretches, records_end_stretches_at_once, records_are_sparse}
 use Rattle.eg_laws.proofs.AvailabilityRecords.{records_stay_available}
-use Rattle.eg_laws.proofs.PeakLaws.{gives_of}
 use Rattle.eg_laws.proofs.LimitLaws.{records_keep_limits}
 use Rattle.eg_laws.proofs.WordLaws.{peak_is_greatest, stretch_is_longest, reaction_is_longest}
 use Rattle.eg_laws.proofs.FindingRecords.{records_find_before_off, records_find_failures, records_find_from_onset, records_tell_flips, records_find_sharply}
@@ -116,7 +115,7 @@ keep_headline cal accepted inputs playable = All-map KeepsHeadline (run_with cal
 
 tells_within_limits : (cal : CalibrationParts) → IsAccepted cal → (input : RunInput) → IsPlayable input → TellsWithinLimits cal input
 unfolding record_facts
-tells_within_limits cal accepted input is = records_keep_limits (keeps_of input.plan.engine) (gives_of input.plan.engine) (run_with cal input).run
+tells_within_limits cal accepted input is = records_keep_limits input.plan.engine (run_with cal input).run
     (record { accepted = accepted; drive = is.drive }) is.fault
 
 pub tell_within_limits : (cal : CalibrationParts) → IsAccepted cal → (inputs : List RunInput) → All IsPlayable inputs → All (TellsWithinLimits cal) inputs

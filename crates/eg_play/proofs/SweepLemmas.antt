@@ -13,7 +13,7 @@ use Rattle.eg_fault.specs.declared.class_name.TheConstants.{CLASSES}
 use Rattle.eg_fault.specs.Faults.{IsValid, IsListed, IsNoneOrValid}
 use Rattle.eg_values.specs.Calibration.{CalibrationParts, IsAccepted}
 use Rattle.eg_model.specs.Records.{IsRun}
-use Rattle.eg_model.proofs.EngineLaws.{keeps_of}
+use Rattle.eg_laws.proofs.KindLaws.{keeps_of}
 use Rattle.eg_tick.specs.Facts.{IsWithoutReset, record_facts}
 use Rattle.eg_tick.proofs.FactLaws.{reaction_within}
 use Rattle.eg_campaign.specs.declared.play.RunInput.{RunInput}

@@ -1,4 +1,4 @@
-use Rattle.eg_model.proofs.EngineLaws.{keeps_of, shows_one_load_of}
+use Rattle.eg_laws.proofs.KindLaws.{keeps_of, shows_one_load_of}
 use Rattle.eg_laws.proofs.AvailabilityRecords.{records_stay_available}
 use Rattle.eg_laws.proofs.availability.records_stay_available.Goals as goal
 

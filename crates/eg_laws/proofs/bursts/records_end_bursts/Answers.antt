@@ -1,4 +1,4 @@
-use Rattle.eg_model.proofs.EngineLaws.{keeps_of}
+use Rattle.eg_laws.proofs.KindLaws.{keeps_of}
 use Rattle.eg_laws.proofs.BurstRows.{records_end_bursts, records_end_bursts_at_once}
 use Rattle.eg_laws.proofs.bursts.records_end_bursts.Goals as goal
 

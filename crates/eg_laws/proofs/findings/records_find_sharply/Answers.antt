@@ -1,4 +1,4 @@
-use Rattle.eg_model.proofs.EngineLaws.{keeps_of, shows_one_load_of}
+use Rattle.eg_laws.proofs.KindLaws.{keeps_of, shows_one_load_of}
 use Rattle.eg_laws.proofs.FindingRecords.{records_find_sharply}
 use Rattle.eg_laws.proofs.findings.records_find_sharply.Goals as goal
 

@@ -1,4 +1,4 @@
-use Rattle.eg_model.proofs.EngineLaws.{keeps_of, shows_one_load_of}
+use Rattle.eg_laws.proofs.KindLaws.{keeps_of, shows_one_load_of}
 use Rattle.eg_laws.proofs.PairsFoundLaws.{records_find_pairs, disagreeing_rows_are_found}
 use Rattle.eg_laws.proofs.pairs_found.records_find_pairs.Goals as goal
 

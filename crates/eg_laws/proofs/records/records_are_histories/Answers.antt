@@ -1,5 +1,5 @@
 use Rattle.eg_model.specs.Engines.{bench_of}
-use Rattle.eg_model.proofs.EngineLaws.{keeps_of}
+use Rattle.eg_laws.proofs.KindLaws.{keeps_of}
 use Rattle.eg_laws.proofs.ShowingLaws.{records_show_runs}
 use Rattle.eg_model.proofs.RecordTicks.{records_are_histories, records_are_rows}
 use Rattle.eg_laws.proofs.records.records_are_histories.Goals as goal

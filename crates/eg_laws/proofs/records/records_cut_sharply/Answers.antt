@@ -1,4 +1,4 @@
-use Rattle.eg_model.proofs.EngineLaws.{keeps_of, shows_one_load_of}
+use Rattle.eg_laws.proofs.KindLaws.{keeps_of, shows_one_load_of}
 use Rattle.eg_model.proofs.RecordLaws.{records_cut_sharply, records_cut_sharply_before}
 use Rattle.eg_laws.proofs.records.records_cut_sharply.Goals as goal
 

@@ -1,4 +1,4 @@
-use Rattle.eg_model.proofs.EngineLaws.{keeps_of}
+use Rattle.eg_laws.proofs.KindLaws.{keeps_of}
 use Rattle.eg_model.proofs.RecordLaws.{records_cut_standing_excess, records_have_short_excess}
 use Rattle.eg_laws.proofs.records.records_cut_standing_excess.Goals as goal
 

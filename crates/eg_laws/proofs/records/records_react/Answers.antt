@@ -1,4 +1,4 @@
-use Rattle.eg_model.proofs.EngineLaws.{keeps_of}
+use Rattle.eg_laws.proofs.KindLaws.{keeps_of}
 use Rattle.eg_model.proofs.RecordLaws.{records_react, records_react_at_once}
 use Rattle.eg_laws.proofs.records.records_react.Goals as goal
 

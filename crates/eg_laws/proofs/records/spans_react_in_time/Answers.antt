@@ -1,4 +1,4 @@
-use Rattle.eg_model.proofs.EngineLaws.{keeps_of}
+use Rattle.eg_laws.proofs.KindLaws.{keeps_of}
 use Rattle.eg_laws.proofs.InTimeLaws.{records_react_in_time}
 use Rattle.eg_laws.proofs.records.spans_react_in_time.Goals as goal
 

@@ -1,4 +1,4 @@
-use Rattle.eg_model.proofs.EngineLaws.{keeps_of}
+use Rattle.eg_laws.proofs.KindLaws.{keeps_of}
 use Rattle.eg_laws.proofs.StretchRows.{records_end_stretches, records_end_stretches_at_once}
 use Rattle.eg_laws.proofs.stretches.records_end_excess.Goals as goal
 
