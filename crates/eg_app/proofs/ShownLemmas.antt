@@ -2,10 +2,12 @@
 use Rattle.std.proofs.Common.{◌≡◌, ◌∙◌, ◌++◌, [], ◌+◌, ◌<◌, ◌≤◌, List, ℕ, drop, length, get_or, subst, refl, sym, ap, arith, append_assoc, append-nil}
 use Rattle.std.proofs.lemmas.List.{at_drop_more, at_drop_all}
 use Rattle.std.specs.Bool.{IsTrue}
-use Rattle.std.specs.Prelude.{Some, option_map, unwrap_or, Result, Ok, Err, IsErr}
+use Rattle.std.specs.Prelude.{Some, option_map, unwrap_or, Result, Ok, Err, IsErr, IsErrOf, OnOk, OnErr}
 use Rattle.std.proofs.lemmas.Result.{IfOk-from_err, on_ok_weaker, on_err_weaker}
-use Rattle.eg_base.specs.Outside.{ShownSink, Appends, AppendsPrefix}
-use Rattle.eg_base.proofs.AppendLemmas.{Appends-append, Appends-nil, AppendsPrefix-append, Rose-earlier}
+use Rattle.eg_base.specs.declared.sink.PutRefusal.{PutRefusal}
+use Rattle.eg_base.specs.declared.sink.PutRefusal.TheVariants.{Failed, Memory}
+use Rattle.eg_base.specs.Outside.{ShownSink, Rose, Appends, AppendsPrefix}
+use Rattle.eg_base.proofs.AppendLemmas.{Appends-append, Appends-nil, AppendsPrefix-append, Rose-earlier, fault_of_refusal}
 use Rattle.eg_base.proofs.ResultLemmas.{at_err}
 use Rattle.eg_app.specs.Shown.{shown_byte, shown_behind, shown_name, Puts}
 use Rattle.eg_outcome.specs.Changes.{change}
@@ -116,7 +118,16 @@ noted a b line (Err why) puts = record {
 -- a line that was put in memory is put as a note
 pub noted_whole : {T U E F : Type 0} (a b : ShownSink) (empty full : ShownSink) (bytes line : List ℕ) (done : T) (result : Result U F) →
     empty.written ≡ Some [] → full.written ≡ Some bytes →
-    (let put : Result T E = Ok done in Puts empty full line put) → Puts a b (bytes ++ []) result → PutsNote (change a b) line
+    (let put : Result T E = Ok done in Puts empty full line put) → Puts a b bytes result → PutsNote (change a b) line
 noted_whole a b empty full bytes line done result none some whole put =
     noted a b line result (subst (λ bs. Puts a b bs result)
-    (append-nil bytes ∙ ap (λ w. unwrap_or w []) (sym some ∙ whole.whole ∙ ap (option_map (λ old. old ++ line)) none)) put)
+    (ap (λ w. unwrap_or w []) (sym some ∙ whole.whole ∙ ap (option_map (λ old. old ++ line)) none)) put)
+
+-- what a put did
+pub puts : (a b : ShownSink) (bytes : List ℕ) (result : Result (Unit {0}) PutRefusal) → OnOk result (Appends a b bytes) →
+    OnErr result (AppendsPrefix a b bytes) → a.faults ≤ b.faults → b.sure ≡ a.sure →
+    (IsErrOf result Failed → Rose a.faults b.faults) → (IsTrue a.sure → ¬ IsErrOf result Memory) → Puts a b bytes result
+puts a b bytes (Ok done) whole front count stays cause sure =
+    record { whole = whole; front = tt; count = count; stays_sure = stays; fault = tt }
+puts a b bytes (Err why) whole front count stays cause sure =
+    record { whole = tt; front = front; count = count; stays_sure = stays; fault = λ is. fault_of_refusal _ why cause (sure is) }

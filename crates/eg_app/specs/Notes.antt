@@ -80,76 +80,76 @@ IsFileName None store o name = name ≡ []
 
 -- ---- the line ----
 
--- what is said of a calibration's fault behind the file's name
-abbrev pub calibration_note : CalFault → List ℕ
-calibration_note cal_fault.Memory = codes ": no memory\n"
-calibration_note cal_fault.Text = codes ": not TOML\n"
-calibration_note (cal_fault.Key key) = codes ": key " ++ text_of key ++ codes "\n"
-calibration_note (cal_fault.Axis key) = codes ": axis " ++ text_of key ++ codes "\n"
-calibration_note (cal_fault.Rising row) = codes ": row " ++ decimal row ++ codes " falls\n"
-calibration_note cal_fault.Window = codes ": answer window\n"
-calibration_note (cal_fault.Answer index) = codes ": answer " ++ decimal index ++ codes "\n"
-
--- what is said of a fault of the records of a check file or a trace behind the file's name
-abbrev pub trace_note : TraceFault → List ℕ
-trace_note trace_fault.Memory = codes ": no memory\n"
-trace_note trace_fault.Header = codes ": header\n"
-trace_note (trace_fault.Row line) = codes ": record " ++ decimal line ++ codes "\n"
-trace_note trace_fault.Empty = codes ": no records\n"
-trace_note trace_fault.Long = codes ": more than 20000 records\n"
-
--- what is said of an answer that breaks a law of engines behind the name of the input
-abbrev pub answer_note : AnswerFault → List ℕ
-answer_note (answer_fault.LoadBelowTorque n) =
-    codes ": load below torque in record " ++ decimal n ++ codes "\n"
-answer_note (answer_fault.TorqueWhileOff n) =
-    codes ": torque with the stages off in record " ++ decimal n ++ codes "\n"
-
--- what is said of an image's fault behind the file's name
-abbrev pub image_note : ImageFault → List ℕ
-image_note image_fault.Memory = codes ": no memory\n"
-image_note (image_fault.Line line) = codes ": line " ++ decimal line ++ codes "\n"
-image_note image_fault.Long = codes ": more than 1024 lines\n"
-
--- what is said of a source's fault behind the file's name
-abbrev pub source_note : AsmFault → List ℕ
-source_note asm_fault.Memory = codes ": no memory\n"
-source_note (asm_fault.Line line) = codes ": line " ++ decimal line ++ codes "\n"
-source_note (asm_fault.Label line) = codes ": label in line " ++ decimal line ++ codes "\n"
-source_note asm_fault.Long = codes ": more than 1024 words\n"
-
--- what is said of a campaign's fault behind the file's name
-abbrev pub campaign_note : CampaignFault → List ℕ
-campaign_note campaign_fault.Memory = codes ": no memory\n"
-campaign_note campaign_fault.Text = codes ": not TOML\n"
-campaign_note (campaign_fault.Key n key) =
-    codes ": run " ++ decimal n ++ codes " key " ++ run_key_text key ++ codes "\n"
-campaign_note (campaign_fault.TwoFaults n) = codes ": run " ++ decimal n ++ codes " has two faults\n"
-campaign_note (campaign_fault.Name n) = codes ": run " ++ decimal n ++ codes " repeats a name\n"
-campaign_note campaign_fault.Many = codes ": more than 1000 runs\n"
-campaign_note (campaign_fault.Ticks n) = codes ": run " ++ decimal n ++ codes " passes 1000000 ticks\n"
-
 -- the line that says this of a file of this name
+abbrev pub line_of : (file text : List ℕ) → List ℕ
+line_of file text = shown_name file ++ (codes ": " ++ (text ++ codes "\n"))
+
+-- what is said of a calibration's fault
+abbrev pub calibration_text : CalFault → List ℕ
+calibration_text cal_fault.Memory = codes "no memory"
+calibration_text cal_fault.Text = codes "not TOML"
+calibration_text (cal_fault.Key key) = codes "key " ++ text_of key
+calibration_text (cal_fault.Axis key) = codes "axis " ++ text_of key
+calibration_text (cal_fault.Rising row) = codes "row " ++ decimal row ++ codes " falls"
+calibration_text cal_fault.Window = codes "answer window"
+calibration_text (cal_fault.Answer index) = codes "answer " ++ decimal index
+
+-- what is said of a fault of the records of a check file or a trace
+abbrev pub trace_text : TraceFault → List ℕ
+trace_text trace_fault.Memory = codes "no memory"
+trace_text trace_fault.Header = codes "header"
+trace_text (trace_fault.Row line) = codes "record " ++ decimal line
+trace_text trace_fault.Empty = codes "no records"
+trace_text trace_fault.Long = codes "more than 20000 records"
+
+-- what is said of an answer that breaks a law of engines
+abbrev pub answer_text : AnswerFault → List ℕ
+answer_text (answer_fault.LoadBelowTorque n) = codes "load below torque in record " ++ decimal n
+answer_text (answer_fault.TorqueWhileOff n) = codes "torque with the stages off in record " ++ decimal n
+
+-- what is said of an image's fault
+abbrev pub image_text : ImageFault → List ℕ
+image_text image_fault.Memory = codes "no memory"
+image_text (image_fault.Line line) = codes "line " ++ decimal line
+image_text image_fault.Long = codes "more than 1024 lines"
+
+-- what is said of a source's fault
+abbrev pub source_text : AsmFault → List ℕ
+source_text asm_fault.Memory = codes "no memory"
+source_text (asm_fault.Line line) = codes "line " ++ decimal line
+source_text (asm_fault.Label line) = codes "label in line " ++ decimal line
+source_text asm_fault.Long = codes "more than 1024 words"
+
+-- what is said of a campaign's fault
+abbrev pub campaign_text : CampaignFault → List ℕ
+campaign_text campaign_fault.Memory = codes "no memory"
+campaign_text campaign_fault.Text = codes "not TOML"
+campaign_text (campaign_fault.Key n key) = codes "run " ++ decimal n ++ codes " key " ++ run_key_text key
+campaign_text (campaign_fault.TwoFaults n) = codes "run " ++ decimal n ++ codes " has two faults"
+campaign_text (campaign_fault.Name n) = codes "run " ++ decimal n ++ codes " repeats a name"
+campaign_text campaign_fault.Many = codes "more than 1000 runs"
+campaign_text (campaign_fault.Ticks n) = codes "run " ++ decimal n ++ codes " passes 1000000 ticks"
+
+-- the line that says this, for a file of this name
 abbrev pub line_said : Says → List ℕ → List ℕ
-line_said (says.Words words) file = shown_name file ++ words.now
-line_said (says.Number before number behind) file =
-    shown_name file ++ (before.now ++ decimal number ++ behind.now)
-line_said (says.Key before key) file = shown_name file ++ (before.now ++ key.now ++ codes "\n")
-line_said (says.RunKey n key) file =
-    shown_name file ++ (codes ": run " ++ decimal n ++ codes " key " ++ key.now ++ codes "\n")
-line_said (says.Alone words) file = words.now
+line_said (says.Words words) file = line_of file words.now
+line_said (says.Number before n) file = line_of file (before.now ++ decimal n)
+line_said (says.Between before n behind) file = line_of file (before.now ++ decimal n ++ behind.now)
+line_said (says.Key before key) file = line_of file (before.now ++ key.now)
+line_said (says.RunKey n key) file = line_of file (codes "run " ++ decimal n ++ codes " key " ++ key.now)
+line_said (says.Alone words) file = words.now ++ codes "\n"
 
 -- the line that notes a refusal, for a file of this name
 abbrev pub refusal_note : Refusal → List ℕ → List ℕ
-refusal_note (refusal.Size _) file = shown_name file ++ codes ": longer than 4194304 bytes\n"
-refusal_note (refusal.Calibration fault) file = shown_name file ++ calibration_note fault
-refusal_note (refusal.Check fault) file = shown_name file ++ trace_note fault
-refusal_note (refusal.Campaign fault) file = shown_name file ++ campaign_note fault
-refusal_note (refusal.Trace _ fault) file = shown_name file ++ trace_note fault
-refusal_note (refusal.Image _ fault) file = shown_name file ++ image_note fault
+refusal_note (refusal.Size _) file = line_of file (codes "longer than 4194304 bytes")
+refusal_note (refusal.Calibration fault) file = line_of file (calibration_text fault)
+refusal_note (refusal.Check fault) file = line_of file (trace_text fault)
+refusal_note (refusal.Campaign fault) file = line_of file (campaign_text fault)
+refusal_note (refusal.Trace _ fault) file = line_of file (trace_text fault)
+refusal_note (refusal.Image _ fault) file = line_of file (image_text fault)
 refusal_note refusal.NoRun file = codes "no such run\n"
-refusal_note (refusal.Source fault) file = shown_name file ++ source_note fault
-refusal_note (refusal.Answer fault) file = shown_name file ++ answer_note fault
+refusal_note (refusal.Source fault) file = line_of file (source_text fault)
+refusal_note (refusal.Answer fault) file = line_of file (answer_text fault)
 refusal_note refusal.Grid file = codes "grid too large\n"
 
 -- the line that notes an outcome, for a file of this name

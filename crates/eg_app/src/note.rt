@@ -28,7 +28,7 @@ pub fn put_note<N: Sink>(alloc: Global, outcome: &Outcome, file: &str, notes: &m
         let _ = put_line(outcome, file, notes);
         return;
     };
-    let _ = put_pieces(&[line.bytes()], notes);
+    let _ = notes.put(line.bytes());
 }
 
 /// Puts the line piece by piece.
@@ -38,7 +38,7 @@ fn put_line<N: Sink>(outcome: &Outcome, file: &[u8], notes: &mut N) -> Result<()
     match outcome {
         Outcome::Done => Ok(()),
         Outcome::Usage => notes.put(b"not a command of egasim\n"),
-        Outcome::ReadFault { .. } => put_around(b"cannot read ", file, &[b"\n"], notes),
+        Outcome::ReadFault { .. } => put_around(b"cannot read ", file, &["\n"], notes),
         Outcome::Refused(refusal) => put_said(refusal_says(refusal), file, notes),
         Outcome::WriteFault => notes.put(b"cannot write\n"),
         Outcome::Memory => notes.put(b"no memory\n"),
@@ -51,25 +51,21 @@ fn put_said<N: Sink>(says: Says<'_>, file: &[u8], notes: &mut N) -> Result<(), P
 {
     let mut digits = Buffer::new();
     match says {
-        Says::Words(words) => put_behind(file, &[words], notes),
-        Says::Alone(words) => notes.put(words),
-        Says::Key { before, key } => put_behind(file, &[before, key.as_bytes(), b"\n"], notes),
-        Says::Number {
-            before,
-            number,
-            behind,
-        } => {
-            let number = digits.format(number).as_bytes();
-            put_behind(file, &[before, number, behind], notes)
+        Says::Words(words) => put_behind(file, &[": ", words, "\n"], notes),
+        Says::Key(before, key) => put_behind(file, &[": ", before, key, "\n"], notes),
+        Says::Number(before, number) => {
+            let number = digits.format(number);
+            put_behind(file, &[": ", before, number, "\n"], notes)
         }
-        Says::RunKey { run, key } => {
-            let run = digits.format(run).as_bytes();
-            put_behind(
-                file,
-                &[b": run ", run, b" key ", key.as_bytes(), b"\n"],
-                notes,
-            )
+        Says::Between(before, number, behind) => {
+            let number = digits.format(number);
+            put_behind(file, &[": ", before, number, behind, "\n"], notes)
         }
+        Says::RunKey(run, key) => {
+            let run = digits.format(run);
+            put_behind(file, &[": run ", run, " key ", key, "\n"], notes)
+        }
+        Says::Alone(words) => put_pieces(&[words, "\n"], notes),
     }
 }
 
@@ -77,7 +73,7 @@ fn put_said<N: Sink>(says: Says<'_>, file: &[u8], notes: &mut N) -> Result<(), P
 fn put_around<N: Sink>(
     words: &[u8],
     file: &[u8],
-    pieces: &[&[u8]],
+    pieces: &[&str],
     notes: &mut N,
 ) -> Result<(), PutRefusal>
     ensures { Puts (N.shows notes.old) (N.shows notes.new)
@@ -88,7 +84,7 @@ fn put_around<N: Sink>(
 }
 
 /// Puts the name of the file, and the pieces behind it.
-fn put_behind<N: Sink>(file: &[u8], pieces: &[&[u8]], notes: &mut N) -> Result<(), PutRefusal>
+fn put_behind<N: Sink>(file: &[u8], pieces: &[&str], notes: &mut N) -> Result<(), PutRefusal>
     ensures { Puts (N.shows notes.old) (N.shows notes.new)
         (shown_name file.now ++ concat (map (λ piece. piece.now) pieces.now)) result }
 {
@@ -97,12 +93,12 @@ fn put_behind<N: Sink>(file: &[u8], pieces: &[&[u8]], notes: &mut N) -> Result<(
 }
 
 /// Puts these pieces, up to the first that is refused.
-fn put_pieces<N: Sink>(pieces: &[&[u8]], notes: &mut N) -> Result<(), PutRefusal>
+fn put_pieces<N: Sink>(pieces: &[&str], notes: &mut N) -> Result<(), PutRefusal>
     ensures { Puts (N.shows notes.old) (N.shows notes.new)
         (concat (map (λ piece. piece.now) pieces.now)) result }
 {
     for piece in pieces {
-        notes.put(piece)?;
+        notes.put(piece.as_bytes())?;
     }
     Ok(())
 }

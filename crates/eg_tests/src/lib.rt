@@ -27,3 +27,5 @@ mod ranges;
 mod rows;
 #[cfg(test)]
 mod steps;
+#[cfg(test)]
+mod texts;

@@ -25,7 +25,7 @@ returns-in_err-put g c =
     record {
       whole = IfOk-from_err c.from_residual.result _ c.from_residual.ensures.0;
       front = at_err c.from_residual.result (rw (concat-cut (λ (p : Bor (List ℕ)). p.now) pieces i nothing c.loop-piece-test.true)
-          (AppendsPrefix-append (shows c.args.notes.now) (shows c.loop-piece.notes) (shows c.put.new.self) (so_far pieces i) _ _ done.put put.prefix));
+          (AppendsPrefix-append (shows c.args.notes.now) (shows c.loop-piece.notes) (shows c.put.new.self) (so_far pieces i) _ _ done.put (rw c.as_bytes.ensures.value at put.prefix)));
       count = omega (arith, counted, count);
       stays_sure = put.stays_sure ∙ done.sure;
       fault = at_err c.from_residual.result (λ sure.
@@ -40,7 +40,7 @@ loop-piece-preserved g c =
     let i = c.loop-piece.piece-index in
     record {
       put = rw (concat-take_more (λ (p : Bor (List ℕ)). p.now) pieces i nothing c.loop-piece-test.true)
-          (Appends-append (shows c.args.notes.now) (shows c.loop-piece.notes) (shows c.put.new.self) (so_far pieces i) _ c.loop-piece.invariant.put c.in_ok-put.ensures.ok);
+          (Appends-append (shows c.args.notes.now) (shows c.loop-piece.notes) (shows c.put.new.self) (so_far pieces i) _ c.loop-piece.invariant.put (rw c.as_bytes.ensures.value at c.in_ok-put.ensures.ok));
       count = (let e = c.in_ok-put.ensures.count in let f = c.loop-piece.invariant.count in omega (arith, e, f));
       sure = c.in_ok-put.ensures.stays_sure ∙ c.loop-piece.invariant.sure;
     }
