@@ -26,7 +26,7 @@ use Rattle.eg_stream.proofs.LawLemmas.{stream_done}
 use Rattle.eg_stream.proofs.MeasuringLemmas.{holds-any}
 use Rattle.eg_app.specs.declared.job.Job.{Job}
 use Rattle.eg_app.specs.declared.job.Job.TheVariants as job
-use Rattle.eg_app.specs.Words.{Command, by, soak, answers, asm, dis, Work, check, bound, limits, coverage, run, record_run, sweep, replay, signals, couple}
+use Rattle.eg_desk.specs.Words.{Command, by, soak, answers, asm, dis, Work, check, bound, limits, coverage, run, record_run, sweep, replay, signals, couple}
 use Rattle.eg_app.specs.Gathered.{Gathers, GathersBy}
 use Rattle.eg_app.specs.Performed.{Performs}
 use Rattle.eg_app.specs.Unlined.{EndsWithoutLines, no_lines}

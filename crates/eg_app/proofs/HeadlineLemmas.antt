@@ -6,7 +6,7 @@ use Rattle.eg_lines.specs.Lines.{ShownLines}
 use Rattle.eg_tick.specs.Weights.{TickCount}
 use Rattle.eg_values.specs.Calibration.{CalibrationParts}
 use Rattle.eg_values.specs.Reference.{reference_parts}
-use Rattle.eg_campaign.specs.declared.play.RunInput.{RunInput}
+use Rattle.eg_plan.specs.declared.run_input.RunInput.{RunInput}
 use Rattle.eg_outcome.specs.declared.outcome.Outcome.{Outcome}
 use Rattle.eg_outcome.specs.declared.outcome.Outcome.TheVariants.{Done}
 use Rattle.eg_outcome.specs.declared.outcome.Role.TheVariants as role
@@ -15,8 +15,9 @@ use Rattle.eg_outcome.specs.Calibrations.{CalibrationComes}
 use Rattle.eg_outcome.specs.Images.{image_file}
 use Rattle.eg_desk.specs.Check.{check_file}
 use Rattle.eg_desk.specs.Ends.{answers_file, read_alone}
-use Rattle.eg_play.specs.declared.telling.Telling.{Telling}
-use Rattle.eg_play.specs.Ends.{RunsCome, Tells}
+use Rattle.eg_outcome.specs.declared.telling.Telling.{Telling}
+use Rattle.eg_outcome.specs.Runs.{RunsCome}
+use Rattle.eg_play.specs.Ends.{Tells}
 use Rattle.eg_input.specs.declared.answered.PartnerAnswer.{PartnerAnswer}
 use Rattle.eg_stream.specs.Coupled.{CoupledUnit, unit_of}
 use Rattle.eg_stream.specs.Couplings.{Coupling, CouplingEnds, coupling, couple_work}
@@ -25,7 +26,7 @@ use Rattle.eg_stream.specs.Streams.{LeadTo}
 use Rattle.eg_stream.specs.Texts.{coupled_text}
 use Rattle.eg_app.specs.declared.job.Job.{Job}
 use Rattle.eg_app.specs.declared.job.Job.TheVariants as job
-use Rattle.eg_app.specs.Words.{Command, by, soak, answers, asm, dis, Work, check, bound, limits, coverage, run, record_run, sweep, replay, signals, couple}
+use Rattle.eg_desk.specs.Words.{Command, by, soak, answers, asm, dis, Work, check, bound, limits, coverage, run, record_run, sweep, replay, signals, couple}
 use Rattle.eg_app.specs.Gathered.{Gathers, GathersBy}
 use Rattle.eg_app.specs.Performed.{Performs}
 use Rattle.eg_app.specs.Ends.{Call, Ends}

@@ -4,7 +4,7 @@ use Rattle.std.specs.Prelude.{Ok, Err}
 use Rattle.eg_base.specs.Outside.{ShownStore}
 use Rattle.eg_num.specs.Drive.{DriveRow}
 use Rattle.eg_plan.specs.declared.run.RunPlan.{RunPlan}
-use Rattle.eg_campaign.specs.declared.play.RunInput.{RunInput}
+use Rattle.eg_plan.specs.declared.run_input.RunInput.{RunInput}
 use Rattle.eg_outcome.specs.Changes.{Change}
 use Rattle.eg_outcome.specs.declared.outcome.Outcome.{Outcome}
 use Rattle.eg_outcome.specs.declared.outcome.Outcome.TheVariants.{Refused}
@@ -13,10 +13,10 @@ use Rattle.eg_outcome.specs.declared.outcome.Refusal.TheVariants.{Grid, NoRun}
 use Rattle.eg_outcome.specs.declared.outcome.Role.TheVariants as role
 use Rattle.eg_outcome.specs.Reads.{ReadComes}
 use Rattle.eg_outcome.specs.Images.{image_file}
-use Rattle.eg_play.specs.Files.{campaign_file, trace_file}
-use Rattle.eg_play.specs.Inputs.{input_of, TicksCome, InputComes, InputsCome, too_many}
+use Rattle.eg_outcome.specs.Campaigns.{campaign_file, trace_file}
+use Rattle.eg_outcome.specs.Inputs.{input_of, TicksCome, InputComes, InputsCome, too_many}
 use Rattle.eg_table.specs.Grid.{is_too_large}
-use Rattle.eg_play.specs.Ends.{FoundComes, FoundUndriven, GridComes, NamedComes, RunsCome, SweptComes, UndrivenComes, run_named}
+use Rattle.eg_outcome.specs.Runs.{FoundComes, FoundUndriven, GridComes, NamedComes, RunsCome, SweptComes, UndrivenComes, run_named}
 use Rattle.eg_app.specs.Headline.{IsInput, AreInputs, IsNamedInput, IsUndrivenInput}
 use Rattle.eg_app.proofs.ChainLemmas.{same_error, same_value, no_value, of_chain, of_value}
 use Rattle.eg_app.proofs.FileLemmas.{IsStop, file_stops}

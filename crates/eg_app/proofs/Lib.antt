@@ -6,5 +6,4 @@ pub mod EndsLemmas
 pub mod HeadlineLemmas
 pub mod MissingLemmas
 pub mod WorkLemmas
-pub mod ShownLemmas
 pub mod SoakLemmas

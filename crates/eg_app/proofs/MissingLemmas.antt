@@ -11,7 +11,7 @@ use Rattle.eg_outcome.specs.declared.outcome.Role.TheVariants as role
 use Rattle.eg_outcome.specs.Calibrations.{MissesCalibration}
 use Rattle.eg_desk.specs.Ends.{read_alone}
 use Rattle.eg_app.specs.declared.job.Job.{Job}
-use Rattle.eg_app.specs.Words.{Command, by, soak, answers, asm, dis, Work}
+use Rattle.eg_desk.specs.Words.{Command, by, soak, answers, asm, dis, Work}
 use Rattle.eg_app.specs.Gathered.{GathersBy}
 use Rattle.eg_app.specs.Missing.{EndsBy, own_file, TellsExactly, TellsMissing, TellsMissingBehind, TellsMissingBy, TellsMissingOwn}
 use Rattle.eg_app.proofs.FileLemmas.{IsStop}

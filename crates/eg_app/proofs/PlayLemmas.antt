@@ -4,7 +4,7 @@ use Rattle.std.specs.Prelude.{Result, Ok, Err}
 use Rattle.eg_base.specs.Outside.{ShownStore}
 use Rattle.eg_num.specs.Drive.{DriveRow}
 use Rattle.eg_plan.specs.declared.run.RunPlan.{RunPlan}
-use Rattle.eg_campaign.specs.declared.play.RunInput.{RunInput}
+use Rattle.eg_plan.specs.declared.run_input.RunInput.{RunInput}
 use Rattle.eg_outcome.specs.Changes.{Change}
 use Rattle.eg_outcome.specs.declared.outcome.Outcome.{Outcome}
 use Rattle.eg_outcome.specs.declared.outcome.Refusal.{Refusal}
@@ -13,9 +13,9 @@ use Rattle.eg_outcome.specs.Outcomes.{IsDoneOrMemory, Then}
 use Rattle.eg_outcome.specs.Reads.{FileComes, ReadComes, Finds, Accepts}
 use Rattle.eg_table.specs.Grid.{is_too_large}
 use Rattle.eg_outcome.specs.Images.{image_file}
-use Rattle.eg_play.specs.Files.{campaign_file, trace_file}
-use Rattle.eg_play.specs.Inputs.{input_of, TicksCome, InputComes, InputsCome, FindsInput, AcceptsInput, FindsRuns, AcceptsRuns, too_many}
-use Rattle.eg_play.specs.Ends.{FoundComes, FoundUndriven, GridComes, NamedComes, RunsCome, SweptComes, UndrivenComes, AcceptsNamed, AcceptsGrid, AcceptsUndriven, run_named}
+use Rattle.eg_outcome.specs.Campaigns.{campaign_file, trace_file}
+use Rattle.eg_outcome.specs.Inputs.{input_of, TicksCome, InputComes, InputsCome, FindsInput, AcceptsInput, FindsRuns, AcceptsRuns, too_many}
+use Rattle.eg_outcome.specs.Runs.{FoundComes, FoundUndriven, GridComes, NamedComes, RunsCome, SweptComes, UndrivenComes, AcceptsNamed, AcceptsGrid, AcceptsUndriven, run_named}
 use Rattle.eg_app.specs.Ends.{AcceptsCampaign}
 use Rattle.eg_app.proofs.ChainLemmas.{no_value, of_chain}
 use Rattle.eg_app.proofs.FileLemmas.{file_done}

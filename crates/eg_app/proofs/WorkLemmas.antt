@@ -14,7 +14,7 @@ use Rattle.eg_outcome.specs.declared.outcome.Outcome.TheVariants as outcome
 use Rattle.eg_outcome.specs.declared.outcome.Refusal.{Refusal}
 use Rattle.eg_outcome.specs.declared.outcome.Role.{Role}
 use Rattle.eg_outcome.specs.declared.outcome.Role.TheVariants as role
-use Rattle.eg_play.specs.Ends.{NamesFile}
+use Rattle.eg_outcome.specs.Runs.{NamesFile}
 use Rattle.eg_stream.specs.Coupled.{unit_of}
 use Rattle.eg_stream.specs.Couplings.{couple_work}
 use Rattle.eg_stream.specs.Recordings.{replay_in, replay_work, signals_in, signals_so_far, signals_work}
@@ -24,11 +24,11 @@ use Rattle.eg_stream.proofs.MeasuringLemmas.{recording-refuses}
 use Rattle.eg_stream.proofs.StreamLemmas.{IsOfLines, RefusesLines}
 use Rattle.eg_app.specs.declared.job.Job.{Job}
 use Rattle.eg_app.specs.declared.job.Job.TheVariants as job
-use Rattle.eg_app.specs.Words.{Command, by, soak, answers, asm, dis, Work, check, bound, limits, coverage, run, record_run, sweep, replay, signals, couple, asks_lines, campaign_in, reads_lines}
+use Rattle.eg_desk.specs.Words.{Command, by, soak, answers, asm, dis, Work, check, bound, limits, coverage, run, record_run, sweep, replay, signals, couple, asks_lines, campaign_in, reads_lines}
 use Rattle.eg_app.specs.Gathered.{Gathers, GathersBy}
 use Rattle.eg_app.specs.Performed.{Performs, PutsNothingBy, takes_lines}
 use Rattle.eg_app.specs.Ends.{HasPutNothing}
-use Rattle.eg_app.specs.Notes.{Names}
+use Rattle.eg_desk.specs.Names.{Names}
 use Rattle.eg_app.proofs.ChainLemmas.{of_value, same_value, with_job}
 use Rattle.eg_app.proofs.MissingLemmas.{IsOfFile}
 

@@ -23,14 +23,14 @@ use Rattle.eg_stream.specs.Recordings.{HoldsRecording}
 use Rattle.eg_stream.specs.Streams.{HoldsWhole}
 use Rattle.eg_desk.specs.Check.{check_file}
 use Rattle.eg_desk.specs.Ends.{AcceptsSource, answers_file}
-use Rattle.eg_play.specs.Ends.{AcceptsGrid, AcceptsNamed, AcceptsUndriven, run_named}
-use Rattle.eg_play.specs.Files.{campaign_file}
-use Rattle.eg_play.specs.Inputs.{FindsRuns, AcceptsRuns}
+use Rattle.eg_outcome.specs.Runs.{AcceptsGrid, AcceptsNamed, AcceptsUndriven, run_named}
+use Rattle.eg_outcome.specs.Campaigns.{campaign_file}
+use Rattle.eg_outcome.specs.Inputs.{FindsRuns, AcceptsRuns}
 use Rattle.eg_app.specs.declared.job.Job.{Job}
 use Rattle.eg_app.specs.declared.job.Job.TheVariants as job
 use Rattle.eg_app.specs.Gathered.{Gathers}
 use Rattle.eg_app.specs.Performed.{Performs}
-use Rattle.eg_app.specs.Words.{Command, by, soak, answers, asm, dis, Work, check, run, record_run, sweep, replay, signals, couple}
+use Rattle.eg_desk.specs.Words.{Command, by, soak, answers, asm, dis, Work, check, run, record_run, sweep, signals, couple}
 
 -- what a call changes: its store, its lines, its output and its count of ticks
 pub record Call : Type 0 where

@@ -1,10 +1,10 @@
 -- A command first reads all files that it needs, and accepts them: the calibration first, and then the files
 -- of its work, in one order. What is to be done then is a job; or the call ends without one.
-use Rattle.std.specs.Prelude.{◌≡◌, ℕ, ◌≤◌, List, length, All, Option, Some, None, Result, Ok}
+use Rattle.std.specs.Prelude.{◌≡◌, ◌≤◌, length, All, Result, Ok}
 use Rattle.eg_base.specs.Outside.{ShownStore}
 use Rattle.eg_fault.specs.Faults.{IsNoneOrValid}
 use Rattle.eg_values.specs.Calibration.{CalibrationParts}
-use Rattle.eg_campaign.specs.Plays.{IsPlayable}
+use Rattle.eg_plan.specs.Playable.{IsPlayable}
 use Rattle.eg_input.specs.declared.image.TheConstants.{MOST_WORDS}
 use Rattle.eg_outcome.specs.Calibrations.{CalibrationComes}
 use Rattle.eg_outcome.specs.Changes.{Change}
@@ -15,11 +15,10 @@ use Rattle.eg_outcome.specs.declared.outcome.Outcome.{Outcome}
 use Rattle.eg_outcome.specs.declared.outcome.Role.TheVariants as role
 use Rattle.eg_desk.specs.Check.{check_file}
 use Rattle.eg_desk.specs.Ends.{SourceFileComes, answers_file, read_alone}
-use Rattle.eg_play.specs.Ends.{NamedComes, RunsCome, SweptComes, UndrivenComes}
-use Rattle.eg_play.specs.Sweeping.{IsSweepable}
+use Rattle.eg_outcome.specs.Runs.{NamedComes, RunsCome, SweptComes, UndrivenComes, IsSweepable}
 use Rattle.eg_app.specs.declared.job.Job.{Job}
 use Rattle.eg_app.specs.declared.job.Job.TheVariants as job
-use Rattle.eg_app.specs.Words.{Command, by, soak, answers, asm, dis, Work, check, bound, limits, coverage, run, record_run, sweep, replay, signals, couple}
+use Rattle.eg_desk.specs.Words.{Command, by, soak, answers, asm, dis, Work, check, bound, limits, coverage, run, record_run, sweep, replay, signals, couple}
 
 -- something comes, and this job is made of it; or the call ends without it
 abbrev pub Makes : {X : Type 0} → (X → Job) → (Result X Outcome → Type 0) → Result Job Outcome → Type 0

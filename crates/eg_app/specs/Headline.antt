@@ -8,19 +8,20 @@ use Rattle.eg_values.specs.Reference.{reference_parts}
 use Rattle.eg_campaign.specs.Plays.{run_with}
 use Rattle.eg_campaign.specs.Texts.{record_text}
 use Rattle.eg_plan.specs.declared.run.RunPlan.{RunPlan}
-use Rattle.eg_campaign.specs.declared.play.RunInput.{RunInput}
+use Rattle.eg_plan.specs.declared.run_input.RunInput.{RunInput}
 use Rattle.eg_outcome.specs.Changes.{Change}
 use Rattle.eg_outcome.specs.Reads.{ReadComes}
 use Rattle.eg_outcome.specs.Calibrations.{calibration_file}
 use Rattle.eg_outcome.specs.Images.{image_file}
-use Rattle.eg_play.specs.Files.{campaign_file, trace_file}
+use Rattle.eg_outcome.specs.Campaigns.{campaign_file, trace_file}
 use Rattle.eg_table.specs.SweepLaws.{IsBounded}
-use Rattle.eg_play.specs.declared.telling.Telling.{Telling}
+use Rattle.eg_outcome.specs.declared.telling.Telling.{Telling}
 use Rattle.eg_play.specs.Texts.{runs_text}
 use Rattle.eg_play.specs.Sweeping.{runs_over, table_over, swept_text}
 use Rattle.eg_play.specs.Headline.{KeepsHeadline}
 use Rattle.eg_play.specs.InWords.{TellsInWords}
-use Rattle.eg_play.specs.Ends.{TellsWithinLimits, run_named}
+use Rattle.eg_outcome.specs.Runs.{run_named}
+use Rattle.eg_play.specs.Ends.{TellsWithinLimits}
 use Rattle.eg_soak.specs.Soak.{drawn_runs, soak_of}
 use Rattle.eg_soak.specs.Texts.{soak_text}
 use Rattle.eg_input.specs.declared.answered.PartnerAnswer.{PartnerAnswer}
@@ -29,7 +30,7 @@ use Rattle.eg_stream.specs.Couplings.{couple_work}
 use Rattle.eg_stream.specs.Headline.{KeepsCoupledHeadline}
 use Rattle.eg_stream.specs.Streams.{LeadTo}
 use Rattle.eg_stream.specs.Texts.{coupled_text}
-use Rattle.eg_app.specs.Words.{Command, by, soak, run, record_run, sweep, couple}
+use Rattle.eg_desk.specs.Words.{Command, by, soak, run, record_run, sweep, couple}
 
 -- this is the calibration that the command uses: that of the file behind `--cal`, or the reference
 abbrev pub Uses : Option (List ℕ) → ShownStore → CalibrationParts → Type 0

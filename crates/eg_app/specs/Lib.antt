@@ -1,6 +1,3 @@
-pub mod Words
-pub mod Shown
-pub mod Notes
 pub mod Gathered
 pub mod Performed
 pub mod Missing

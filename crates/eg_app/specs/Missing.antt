@@ -9,7 +9,7 @@ use Rattle.eg_outcome.specs.declared.outcome.Outcome.TheVariants as outcome
 use Rattle.eg_outcome.specs.declared.outcome.Role.{Role}
 use Rattle.eg_outcome.specs.declared.outcome.Role.TheVariants as role
 use Rattle.eg_desk.specs.Ends.{read_alone}
-use Rattle.eg_app.specs.Words.{Command, by, soak, answers, asm, dis, Work, check, campaign_in}
+use Rattle.eg_desk.specs.Words.{Command, by, soak, answers, asm, dis, Work, check, campaign_in}
 
 -- what came is this end
 abbrev pub EndsBy : {X : Type 0} → Result X Outcome → Outcome → Type 0

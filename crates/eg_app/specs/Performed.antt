@@ -5,7 +5,7 @@ use Rattle.eg_base.specs.Outside.{ShownSink}
 use Rattle.eg_lines.specs.Lines.{ShownLines}
 use Rattle.eg_asm.specs.Listings.{source_text, image_text}
 use Rattle.eg_tick.specs.Weights.{TickCount}
-use Rattle.eg_campaign.specs.Plays.{rows_of_runs}
+use Rattle.eg_model.specs.EngineRuns.{rows_of_runs}
 use Rattle.eg_outcome.specs.Changes.{Change, Stays}
 use Rattle.eg_outcome.specs.Outcomes.{LineEnds, PutsNothing}
 use Rattle.eg_outcome.specs.declared.outcome.Outcome.{Outcome}

@@ -6,7 +6,7 @@ use Rattle.eg_tick.specs.Weights.{TickCount}
 use Rattle.eg_outcome.specs.Changes.{Change, change}
 use Rattle.eg_outcome.specs.declared.outcome.Outcome.{Outcome}
 use Rattle.eg_app.specs.Ends.{Ends, call}
-use Rattle.eg_app.specs.Words.{Command}
+use Rattle.eg_desk.specs.Words.{Command}
 
 -- what a source shows that has no lines, and is sure
 abbrev pub no_lines : ShownLines

@@ -1,24 +1,23 @@
 // The top call.
 ghost use Rattle.std.specs.Prelude.{◌≡◌, false, Some};
-ghost use Rattle.eg_app.specs.Words.{word_bytes, asks_lines, command_of, said, KeepsLimits};
+ghost use Rattle.eg_desk.specs.Words.{word_bytes, asks_lines, command_of, said, KeepsLimits};
 ghost use Rattle.eg_app.specs.Ends.{Ends, HasPutNothing, Completes, call};
 ghost use Rattle.eg_app.specs.Missing.{ReadsNothing, TellsMissing};
 ghost use Rattle.eg_app.specs.Headline.{TellsHeadline};
-ghost use Rattle.eg_app.specs.Notes.{NotesOutcome, Names, IsFileName};
+ghost use Rattle.eg_desk.specs.Names.{Names, IsFileName};
+ghost use Rattle.eg_desk.specs.Names.{NotesOutcome};
 ghost use Rattle.eg_app.specs.Unlined.{EndsWithoutLines, no_lines};
 ghost use Rattle.eg_base.specs.Outside.{ShownStore};
 ghost use Rattle.eg_outcome.specs.Changes.{change, change_of};
 ghost use Rattle.eg_outcome.specs.Outcomes.{TellsNoMemory};
 ghost use Rattle.eg_outcome.specs.declared.outcome.Outcome.TheVariants.{Done};
 
-use crate::command::Command;
 use crate::gather::gather;
-use crate::note::put_note;
 use crate::perform::perform;
 use eg_base::{Sink, Store};
+use eg_desk::Command;
 use eg_lines::{Lines, SureLines};
-use eg_outcome::Outcome;
-use eg_play::End;
+use eg_outcome::{End, Outcome, put_note};
 use eg_tick::Ticks;
 use std::alloc::Global;
 

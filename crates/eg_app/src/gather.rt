@@ -3,19 +3,16 @@ ghost use Rattle.std.specs.Prelude.{◌≡◌, Err, IfErr, IfOk, None, Some};
 ghost use Rattle.eg_outcome.specs.Changes.{change_of};
 ghost use Rattle.eg_outcome.specs.Outcomes.{TellsNoMemory};
 ghost use Rattle.eg_outcome.specs.Reads.{KeepsFiles};
-ghost use Rattle.eg_play.specs.Inputs.{outcomes};
-ghost use Rattle.eg_app.specs.Words.{said, said_work, KeepsLimits, WorkKeepsLimits};
+ghost use Rattle.eg_outcome.specs.Inputs.{outcomes};
+ghost use Rattle.eg_desk.specs.Words.{said, said_work, KeepsLimits, WorkKeepsLimits};
 ghost use Rattle.eg_app.specs.Gathered.{Gathers, GathersBy, IsSound};
 ghost use Rattle.eg_app.specs.Missing.{EndsBy, ReadsNothing, TellsMissing, TellsMissingOwn, own_file};
-ghost use Rattle.eg_app.specs.Notes.{Names, NamesBy};
+ghost use Rattle.eg_desk.specs.Names.{Names, NamesBy};
 
-use crate::command::Command;
 use crate::job::Job;
-use crate::work::Work;
 use eg_base::Store;
-use eg_desk::{check_rows, image_of, questions_of, source_words};
-use eg_outcome::calibration_for;
-use eg_play::{End, input_named, input_swept, inputs_of, undriven_named};
+use eg_desk::{Command, Work, check_rows, image_of, questions_of, source_words};
+use eg_outcome::{End, calibration_for, input_named, input_swept, inputs_of, undriven_named};
 use eg_values::Calibration;
 use std::alloc::Global;
 

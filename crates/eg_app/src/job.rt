@@ -1,9 +1,9 @@
 // What is to be done.
 use eg_answer::Questions;
 use eg_base::Items;
-use eg_campaign::RunInput;
 use eg_num::Drive;
-use eg_play::Telling;
+use eg_outcome::Telling;
+use eg_plan::RunInput;
 use eg_values::Calibration;
 
 /// What is to be done once everything was read and accepted: what a command asks for, with what its files say

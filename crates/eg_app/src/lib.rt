@@ -3,17 +3,10 @@
 #![tactic(auto)]
 
 mod call;
-mod command;
-mod forms;
 mod gather;
 mod job;
-mod note;
-mod number;
 mod perform;
-mod says;
-mod shown;
 mod soak;
-mod work;
 
 pub use call::{egasim, egasim_on_lines};
 pub use eg_outcome::{Outcome, Refusal, Role};

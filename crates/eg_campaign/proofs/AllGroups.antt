@@ -13,10 +13,11 @@ use Rattle.eg_record.specs.declared.row.Row.{Row}
 use Rattle.eg_record.specs.declared.run_facts.RunFacts.{RunFacts}
 use Rattle.eg_tick.specs.Weights.{TickCount}
 use Rattle.eg_plant.specs.declared.engine_kind.EngineKind.{EngineKind}
-use Rattle.eg_campaign.specs.declared.play.RunInput.{RunInput}
+use Rattle.eg_plan.specs.declared.run_input.RunInput.{RunInput}
 use Rattle.eg_tick.specs.Counting.{count_with, RanOutAmong}
 use Rattle.eg_model.specs.Engines.{bench_of}
-use Rattle.eg_campaign.specs.Plays.{EngineRun, rows_in_time, run_with}
+use Rattle.eg_model.specs.EngineRuns.{EngineRun, rows_in_time}
+use Rattle.eg_campaign.specs.Plays.{run_with}
 use Rattle.eg_tick.proofs.CountLemmas.{counted_err}
 use Rattle.eg_campaign.specs.Groups.{AreTold, is_alike, group_of, firsts_after, groups_of, faultless, own_on, own_rows, rows_of_group, rows_shared, rows_made, told_on, told_by, written_over}
 use Rattle.eg_campaign.specs.Keys.{is_alike-equality}

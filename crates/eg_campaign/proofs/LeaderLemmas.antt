@@ -8,7 +8,7 @@ use Rattle.std.proofs.lemmas.Bool.Decides.{nat_tests}
 use Rattle.std.proofs.lemmas.List.{get_or_default, get_or-set_same, get_or-set_other, length-map, length-take-le}
 use Rattle.std.proofs.lemmas.List.Filters.{length-filter_more, length-filter_both}
 use Rattle.std.proofs.lemmas.List.Sums.{fails_before_first, prefix_len_stops}
-use Rattle.eg_campaign.specs.declared.play.RunInput.{RunInput}
+use Rattle.eg_plan.specs.declared.run_input.RunInput.{RunInput}
 use Rattle.eg_campaign.specs.declared.key.GroupKey.{GroupKey}
 use Rattle.eg_campaign.specs.Groups.{AreAlike, is_alike, group_of, leader_in}
 use Rattle.eg_campaign.specs.Keys.{group_number, is_same_key, is_alike-equality}

@@ -10,9 +10,10 @@ use Rattle.eg_model.specs.Engines.{BenchEngine}
 use Rattle.eg_tick.specs.Benched.{ComeTo}
 use Rattle.eg_tick.specs.Weights.{TickCount}
 use Rattle.eg_campaign.specs.declared.checkpoints.Shared.{Shared}
-use Rattle.eg_campaign.specs.declared.play.RunInput.{RunInput}
+use Rattle.eg_plan.specs.declared.run_input.RunInput.{RunInput}
 use Rattle.eg_tick.specs.Counting.{count_with, RanOutAmong}
-use Rattle.eg_campaign.specs.Plays.{EngineRun, run_with}
+use Rattle.eg_model.specs.EngineRuns.{EngineRun}
+use Rattle.eg_campaign.specs.Plays.{run_with}
 use Rattle.eg_campaign.specs.Groups.{is_alike, faultless, written_over}
 use Rattle.eg_campaign.specs.Checkpoints.{IsSharedBy}
 use Rattle.eg_campaign.proofs.AlikeLemmas.{alike, faultless-same}

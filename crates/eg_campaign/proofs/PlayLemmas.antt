@@ -15,7 +15,7 @@ use Rattle.eg_model.specs.Rows.{record_rows, record_trap, report_of}
 use Rattle.eg_tick.specs.Run.{run_by}
 use Rattle.eg_plant.specs.declared.engine_kind.EngineKind.{EngineKind}
 use Rattle.eg_model.specs.Engines.{bench_of}
-use Rattle.eg_campaign.specs.Plays.{EngineRun, rows_of_run, rows_in_time, report_of_run}
+use Rattle.eg_model.specs.EngineRuns.{EngineRun, rows_of_run, rows_in_time, report_of_run}
 
 -- ---- runs ----
 

@@ -14,9 +14,10 @@ use Rattle.eg_record.specs.declared.row.Row.{Row}
 use Rattle.eg_tick.specs.Weights.{TickCount}
 use Rattle.eg_tick.specs.Counting.{AreCounted}
 use Rattle.eg_plant.specs.declared.engine_kind.EngineKind.{EngineKind}
-use Rattle.eg_campaign.specs.declared.play.RunInput.{RunInput}
+use Rattle.eg_plan.specs.declared.run_input.RunInput.{RunInput}
 use Rattle.eg_model.specs.Engines.{bench_of}
-use Rattle.eg_campaign.specs.Plays.{rows_in_time, run_with}
+use Rattle.eg_model.specs.EngineRuns.{rows_in_time}
+use Rattle.eg_campaign.specs.Plays.{run_with}
 use Rattle.eg_campaign.specs.Groups.{AreTold, input_under, faultless, inputs_under, own_rows, rows_under, rows_of_group, told_on, facts_by}
 
 module _ (cal : CalibrationParts) (x : RunInput) (faults : List Fault) (k : EngineKind) (is : x.plan.engine ≡ k) where

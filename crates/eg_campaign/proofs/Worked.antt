@@ -9,7 +9,7 @@ use Rattle.eg_model.specs.Engines.{diesel}
 use Rattle.eg_model.specs.Examples.{full, bench_run, reported}
 use Rattle.eg_model.proofs.WholeModel.{whole_model}
 use Rattle.eg_plant.specs.declared.engine_kind.EngineKind.TheVariants as kind
-use Rattle.eg_campaign.specs.Plays.{report_of_run}
+use Rattle.eg_model.specs.EngineRuns.{report_of_run}
 use Rattle.eg_campaign.specs.Texts.{text_of}
 use Rattle.eg_campaign.specs.Recording.{HasLines}
 

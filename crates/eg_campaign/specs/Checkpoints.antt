@@ -17,10 +17,10 @@ use Rattle.eg_tick.specs.Benched.{ComeTo}
 use Rattle.eg_tick.specs.Run.{IsAt}
 use Rattle.eg_tick.specs.Margins.{weighed_to}
 use Rattle.eg_tick.specs.Facts.{IsToldOf}
-use Rattle.eg_campaign.specs.declared.benches.Benches.{Benches}
+use Rattle.eg_campaign.specs.declared.kinds.Benches.{Benches}
 use Rattle.eg_campaign.specs.declared.checkpoints.Played.{Played}
 use Rattle.eg_campaign.specs.declared.checkpoints.Shared.{Shared}
-use Rattle.eg_campaign.specs.declared.play.RunInput.{RunInput}
+use Rattle.eg_plan.specs.declared.run_input.RunInput.{RunInput}
 use Rattle.eg_campaign.specs.Plays.{run_with}
 use Rattle.eg_tick.specs.Counting.{count_with}
 use Rattle.eg_campaign.specs.Groups.{faultless, checkpoint_ticks}

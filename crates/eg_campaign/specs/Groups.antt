@@ -20,8 +20,9 @@ use Rattle.eg_tick.specs.Weights.{TickCount}
 use Rattle.eg_tick.specs.Counting.{AreCounted}
 use Rattle.eg_plant.specs.declared.engine_kind.EngineKind.{EngineKind}
 use Rattle.eg_plant.specs.EngineKinds.{number_of}
-use Rattle.eg_campaign.specs.declared.play.RunInput.{RunInput}
-use Rattle.eg_campaign.specs.Plays.{run_with, rows_in_time}
+use Rattle.eg_plan.specs.declared.run_input.RunInput.{RunInput}
+use Rattle.eg_model.specs.EngineRuns.{rows_in_time}
+use Rattle.eg_campaign.specs.Plays.{run_with}
 
 -- ---- groups ----
 

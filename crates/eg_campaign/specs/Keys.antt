@@ -1,28 +1,18 @@
 -- Outside the headline. The key of a group is a run of it, with a number that is made of all that the runs of
 -- the group share. A map finds the first run of a group by it.
-use Rattle.std.specs.Prelude.{◌≡◌, ℕ, ◌+◌, ◌*◌, ◌%◌, ◌^◌, Bool, true, ◌==◌, ◌&&◌, fold, if◌then◌else◌, bit_xor}
-use Rattle.std.specs.Int.{w64, rotate_left}
+use Rattle.std.specs.Prelude.{◌≡◌, ℕ, Bool, true, ◌==◌, ◌&&◌, fold}
 use Rattle.std.specs.Hash as fed
 use Rattle.std.specs.Hash.{first_alike, on_Alike, same_Alike}
 use Rattle.std.specs.Cmp.{IsEquivalence, and_equiv, on_equiv, nat_eq_equiv, unsigned_Decides}
 use Rattle.std.specs.Cmp.Lexicographic.{lists_equiv}
-use Rattle.eg_num.specs.Drive.{DriveRow, is_same_row-equality}
+use Rattle.eg_num.specs.Drive.{is_same_row-equality}
 use Rattle.eg_plant.specs.EngineKinds.{number_of}
-use Rattle.eg_campaign.specs.declared.play.RunInput.{RunInput}
+use Rattle.eg_plan.specs.DriveNumbers.{mixed, row_number}
+use Rattle.eg_plan.specs.declared.run_input.RunInput.{RunInput}
 use Rattle.eg_campaign.specs.declared.key.GroupKey.{GroupKey}
 use Rattle.eg_campaign.specs.Groups.{is_alike}
 
 -- ---- the number ----
-
--- A number and the next one, made one. It is no sum of the two, so that drives which are made of one pattern
--- and its opposite have two numbers.
-unfoldable pub mixed : ℕ → ℕ → ℕ
-mixed number next = bit_xor (rotate_left w64 number 26) next * 6364136223846793005 % 2 ^ 64
-
--- a drive row as one number
-unfoldable pub row_number : DriveRow → ℕ
-row_number row = ((row.pedal * 65536 + row.speed) * 65536 + row.raise) * 4
-    + 2 * (if row.reset then 1 else 0) + (if row.brake then 1 else 0)
 
 -- The number of a run: its engine, the words of its image, the rows of its slice plan and of its drive, made
 -- one. So runs of one group have one number.

@@ -6,4 +6,5 @@ pub mod Texts
 pub mod Recording
 pub use Rattle.eg_base.specs.Outside
 pub use Rattle.eg_model.specs.Engines
+pub use Rattle.eg_model.specs.EngineRuns
 pub use Rattle.eg_model.specs.Rows

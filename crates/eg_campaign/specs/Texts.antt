@@ -4,8 +4,9 @@ use Rattle.std.specs.List.{concat}
 use Rattle.eg_values.specs.Calibration.{CalibrationParts}
 use Rattle.eg_record.specs.declared.row.Row.{Row}
 use Rattle.eg_record.specs.Texts.{record_header, row_line}
-use Rattle.eg_campaign.specs.Plays.{run_with, rows_in_time}
-use Rattle.eg_campaign.specs.declared.play.RunInput.{RunInput}
+use Rattle.eg_model.specs.EngineRuns.{rows_in_time}
+use Rattle.eg_campaign.specs.Plays.{run_with}
+use Rattle.eg_plan.specs.declared.run_input.RunInput.{RunInput}
 
 -- the header, and the line of each of these rows
 unfoldable pub text_of : List Row → List ℕ

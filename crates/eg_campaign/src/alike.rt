@@ -2,8 +2,7 @@
 ghost use Rattle.std.specs.Prelude.{◌≡◌};
 ghost use Rattle.eg_campaign.specs.Groups.{is_alike, is_same_engine};
 
-use crate::RunInput;
-use eg_plan::EngineKind;
+use eg_plan::{EngineKind, RunInput};
 
 /// Whether two runs are of one group: their engines, images, slice plans and drives are equal, so that
 /// without their faults they are one run (docs/CONCEPT.md, "The record of a run"). It takes no memory.

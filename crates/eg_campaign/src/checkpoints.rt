@@ -9,17 +9,18 @@ ghost use Rattle.eg_model.specs.Rows.{record_rows};
 ghost use Rattle.eg_tick.specs.Weights.{TickCount};
 ghost use Rattle.eg_tick.specs.Facts.{IsToldOf};
 ghost use Rattle.eg_tick.specs.Counting.{count_with, AreCounted};
-ghost use Rattle.eg_campaign.specs.Plays.{IsPlayable, IsPlayed, run_with};
+ghost use Rattle.eg_plan.specs.Playable.{IsPlayable};
+ghost use Rattle.eg_campaign.specs.Plays.{IsPlayed, run_with};
 ghost use Rattle.eg_campaign.specs.Groups.{faultless, checkpoint_ticks, input_under, own_on};
 ghost use Rattle.eg_campaign.specs.Checkpoints.{run_under, PlaysInput, HasPlayed, HasMade, AreCheckpoints, IsSharedFor, IsWantedFor};
 
-use crate::RunInput;
 use crate::counting::count_none;
 use crate::wanted::{Wanted, is_wanted};
 use eg_base::NoMemory;
 use eg_fault::Fault;
 use eg_guard::{CopyMemory, FlatMemory, Guarded};
 use eg_pages::PagedMemory;
+use eg_plan::RunInput;
 use eg_plant::CopyEngine;
 use eg_record::{MarginTally, RunFacts, Tally};
 use eg_tick::{

@@ -1,22 +1,18 @@
 // The runs of a campaign, played group by group.
-ghost use Rattle.std.specs.Prelude.{◌≡◌, ◌<◌, ◌==◌, All, filter, map, length, replicate, slice_index_or, IfOk, OnOk, None};
+ghost use Rattle.std.specs.Prelude.{◌≡◌, ◌<◌, All, map, length, replicate, slice_index_or, IfOk, OnOk, None};
 ghost use Rattle.eg_record.specs.declared.run_facts.RunFacts.{RunFacts};
 ghost use Rattle.eg_tick.specs.Counting.{AreCounted};
-ghost use Rattle.eg_campaign.specs.Checkpoints.{AreFor};
-ghost use Rattle.eg_campaign.specs.Plays.{IsPlayable};
-ghost use Rattle.eg_campaign.specs.Groups.{AreTold, group_of, leader_in, rows_shared, rows_of_group, rows_made, told_on, told_by, written_over};
+ghost use Rattle.eg_plan.specs.Playable.{IsPlayable};
+ghost use Rattle.eg_campaign.specs.Groups.{AreTold, leader_in, rows_shared, rows_made, told_on, told_by, written_over};
 
-use crate::RunInput;
-use crate::benches::Benches;
 use crate::checkpoints::{Bench, play_from, share};
 use crate::counting::count_none;
+use crate::kinds::{Benches, play_first};
 use crate::leading::{counts_led, leaders};
-use crate::play::tell_one;
 use crate::wanted::wanted_in;
 use eg_base::NoMemory;
-use eg_diesel::DieselEngine;
-use eg_plan::EngineKind;
-use eg_plant::{CopyEngine, GasolineEngine};
+use eg_plan::RunInput;
+use eg_plant::CopyEngine;
 use eg_record::{MarginTally, RunFacts, Tally};
 use eg_tick::{BenchedEngine, Ticks};
 use eg_values::Calibration;
@@ -24,10 +20,10 @@ use std::alloc::Global;
 
 /// The group that the run at an index leads, by the leader of each run of the campaign, and how many it is.
 #[derive(Clone, Copy)]
-struct Group<'a> {
-    leaders: &'a [usize],
-    index: usize,
-    size: usize,
+pub(crate) struct Group<'a> {
+    pub(crate) leaders: &'a [usize],
+    pub(crate) index: usize,
+    pub(crate) size: usize,
 }
 
 /// Plays the runs of a campaign as `run_all` does, and tells of each its facts, the reactions in its spans,
@@ -87,67 +83,9 @@ fn untold(alloc: Global, calibration: &Calibration, count: usize) -> Result<Vec<
     Ok(vec![in alloc; none; count]?)
 }
 
-/// Plays this group, or the run that leads it alone where the group has no other. What each run of the group
-/// tells is written at its index.
-#[inline(never)]
-fn play_first<const WEIGHED: bool>(
-    alloc: Global,
-    benches: &mut Benches,
-    calibration: &Calibration,
-    inputs: &[RunInput],
-    group: Group<'_>,
-    told: &mut [RunFacts],
-    steps: &mut Ticks,
-) -> Result<(), NoMemory>
-    requires playable { All IsPlayable inputs.now }
-    requires index { group.index < length inputs.now }
-    requires leaders { group.leaders.now ≡ map (leader_in inputs.now) inputs.now }
-    requires leads { slice_index_or group.leaders.now group.index 0 ≡ group.index }
-    requires size { group.size ≡ length (filter (λ leader. leader == group.index) group.leaders.now) }
-    requires places { length told.old ≡ length inputs.now }
-    requires benches { AreFor calibration.now benches.old }
-    ensures benches { OnOk result (AreFor calibration.now benches.new) }
-    ensures told { (x : RunInput) → x ≡ slice_index_or inputs.now group.entry.index x →
-        (before : RunInput → RunFacts) → told.old ≡ map before inputs.now → OnOk result
-        (told.new ≡ map (written_over (told_by WEIGHED calibration.now) x before) inputs.now) }
-    ensures counted { (x : RunInput) → x ≡ slice_index_or inputs.now group.entry.index x →
-        AreCounted (rows_of_group calibration.now (group_of inputs.now x)) steps.old steps.new result }
-{
-    let index = group.index;
-    let input = &inputs[index];
-    if group.size < 2 {
-        told[index] = tell_one::<WEIGHED>(benches, calibration, input, steps);
-        return Ok(());
-    }
-    match input.plan.engine {
-        EngineKind::Gasoline => {
-            play_group::<GasolineEngine, WEIGHED>(
-                alloc,
-                &mut benches.gasoline,
-                calibration,
-                inputs,
-                group,
-                told,
-                steps,
-            )
-        }
-        EngineKind::Diesel => {
-            play_group::<DieselEngine, WEIGHED>(
-                alloc,
-                &mut benches.diesel,
-                calibration,
-                inputs,
-                group,
-                told,
-                steps,
-            )
-        }
-    }
-}
-
 /// Plays this group on an engine of this type: the run without a fault once, and each run of the group from
 /// there. What each tells is written at its index.
-fn play_group<E: BenchedEngine + CopyEngine, const WEIGHED: bool>(
+pub(crate) fn play_group<E: BenchedEngine + CopyEngine, const WEIGHED: bool>(
     alloc: Global,
     played: &mut Bench<E>,
     calibration: &Calibration,

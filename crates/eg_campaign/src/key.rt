@@ -2,11 +2,11 @@
 ghost use Rattle.std.specs.Prelude.{◌≡◌, fold};
 ghost use Rattle.std.specs.Hash as fed;
 ghost use Rattle.std.specs.Cmp as equal;
-ghost use Rattle.eg_campaign.specs.Keys.{mixed, row_number, group_number, is_same_key, is_same_key-equality, is_same_key-hashed};
+ghost use Rattle.eg_plan.specs.DriveNumbers.{mixed};
+ghost use Rattle.eg_campaign.specs.Keys.{group_number, is_same_key, is_same_key-equality, is_same_key-hashed};
 
-use crate::RunInput;
 use crate::alike::is_alike;
-use eg_num::Drive;
+use eg_plan::{RunInput, mixed, number_of_drive};
 use eg_tick::Slices;
 use std::hash::{Hash, Hasher};
 
@@ -66,14 +66,6 @@ fn group_number(input: &RunInput) -> u64
     number_of_drive(plan, input.drive.as_slice())
 }
 
-/// A number and the next one, made one.
-#[tactic(auto, unfolding(crate::specs::Keys::mixed))]
-fn mixed(number: u64, next: u64) -> u64
-    ensures { result ≡ mixed number next }
-{
-    (number.rotate_left(26) ^ next).wrapping_mul(6_364_136_223_846_793_005)
-}
-
 /// A number and these words, made one.
 fn number_of_words(number: u64, words: &[u16]) -> u64
     ensures { result ≡ fold mixed number words.now }
@@ -94,25 +86,4 @@ fn number_of_plan(number: u64, rows: &[Slices]) -> u64
         all = number_of_words(all, &row.budget());
     }
     all
-}
-
-/// A number and the rows of a drive, made one.
-pub(crate) fn number_of_drive(number: u64, rows: &[Drive]) -> u64
-    ensures { result ≡ fold (λ all row. mixed all (row_number row)) number rows.now }
-{
-    let mut all = number;
-    for row in rows {
-        all = mixed(all, row_number(row));
-    }
-    all
-}
-
-/// A drive row as one number.
-#[tactic(auto, unfolding(crate::specs::Keys::row_number))]
-fn row_number(row: &Drive) -> u64
-    ensures { result ≡ row_number row.now }
-{
-    let (pedal, speed, raise) = (row.pedal(), row.speed(), row.raise());
-    let numbers = (u64::from(pedal) * 65_536 + u64::from(speed)) * 65_536 + u64::from(raise);
-    numbers * 4 + 2 * u64::from(row.reset()) + u64::from(row.brake())
 }

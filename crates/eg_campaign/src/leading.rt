@@ -6,9 +6,9 @@ ghost use Rattle.eg_campaign.specs.Keys.{is_same_key};
 ghost use Rattle.eg_campaign.specs.Groups.{leader_in};
 ghost use Rattle.eg_campaign.specs.Checkpoints.{AreCounts};
 
-use crate::RunInput;
 use crate::key::GroupKey;
 use eg_base::NoMemory;
+use eg_plan::RunInput;
 use std::alloc::Global;
 use std::collections::HashMap;
 

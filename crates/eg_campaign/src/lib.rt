@@ -5,26 +5,18 @@
 #![tactic(auto)]
 
 mod alike;
-mod benches;
 mod checkpoints;
 mod counting;
-mod drives;
 mod groups;
 mod key;
+mod kinds;
 mod leading;
 mod play;
 mod recording;
-mod shared_items;
 mod under;
 mod wanted;
 
-pub use drives::Drives;
-pub use eg_plan::{
-    CampaignFault, EngineKind, RunKey, RunPlan, accepted_files_keep_the_rules, add_ticks,
-    read_campaign, usual_slices,
-};
 pub use groups::told_all;
-pub use play::{RunInput, facts_all, run_all};
-pub use recording::{RecordStop, record_into};
-pub use shared_items::SharedItems;
-pub use under::facts_under;
+pub use kinds::{facts_under, record_into};
+pub use play::{facts_all, run_all};
+pub use recording::RecordStop;

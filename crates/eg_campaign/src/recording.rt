@@ -3,16 +3,14 @@ ghost use Rattle.std.specs.Prelude.{◌≡◌, reverse, OnOk, OnErr, IsErrOf, Is
 ghost use Rattle.eg_base.specs.Outside.{Rose, Appends, AppendsPrefix};
 ghost use Rattle.eg_record.specs.Texts.{row_line};
 ghost use Rattle.eg_model.specs.Rows.{record_rows};
-ghost use Rattle.eg_campaign.specs.Plays.{IsPlayable, run_with, rows_in_time};
+ghost use Rattle.eg_plan.specs.Playable.{IsPlayable};
+ghost use Rattle.eg_campaign.specs.Plays.{run_with};
 ghost use Rattle.eg_campaign.specs.Recording.{WritesRecord};
 ghost use Rattle.eg_campaign.specs.declared.recording.RecordStop.TheVariants.{Memory, Put};
 
-use crate::RunInput;
 use crate::counting::count_none;
 use eg_base::{PutRefusal, Sink};
-use eg_diesel::DieselEngine;
-use eg_plan::EngineKind;
-use eg_plant::GasolineEngine;
+use eg_plan::RunInput;
 use eg_record::{ROW_ROOM, Row, put_line, record_header};
 use eg_tick::{BenchedEngine, Ticks, bench_controller, bench_row};
 use eg_values::Calibration;
@@ -26,28 +24,8 @@ pub enum RecordStop {
     Put,
 }
 
-/// Plays a run, and puts its record to an output: the header, and the line of each row as its tick is made
-/// (docs/FORMATS.md, "The record"; docs/CONCEPT.md, "The record of a run"). It takes no memory of its own. No
-/// clause says that each line is one put: a test shows it. The ticks are counted in `steps`.
-#[inline(never)]
-pub fn record_into<K: Sink>(
-    calibration: &Calibration,
-    input: &RunInput,
-    out: &mut K,
-    steps: &mut Ticks,
-) -> Result<(), RecordStop>
-    requires { IsPlayable input.now }
-    ensures { WritesRecord (rows_in_time (run_with calibration.now input.now))
-        (K.shows out.old) (K.shows out.new) steps.old steps.new result }
-{
-    match input.plan.engine {
-        EngineKind::Gasoline => record_on::<GasolineEngine, K>(calibration, input, out, steps),
-        EngineKind::Diesel => record_on::<DieselEngine, K>(calibration, input, out, steps),
-    }
-}
-
 /// Does what `record_into` does, with an engine of this type, whichever the run names.
-fn record_on<E: BenchedEngine, K: Sink>(
+pub(crate) fn record_on<E: BenchedEngine, K: Sink>(
     calibration: &Calibration,
     input: &RunInput,
     out: &mut K,

@@ -3,12 +3,12 @@ ghost use Rattle.std.specs.Prelude.{◌≡◌, All, Option, false, Some, length,
 ghost use Rattle.std.specs.Option.{option_copied};
 ghost use Rattle.eg_fault.specs.declared.class.Fault.{Fault as OfFault};
 ghost use Rattle.eg_fault.specs.Faults.{IsNoneOrValid, IsValid};
-ghost use Rattle.eg_campaign.specs.Plays.{IsPlayable};
+ghost use Rattle.eg_plan.specs.Playable.{IsPlayable};
 ghost use Rattle.eg_campaign.specs.Checkpoints.{AreWantedIn, IsWantedFor};
 
-use crate::RunInput;
 use crate::checkpoints::CHECKPOINT_TICKS;
 use eg_fault::Fault;
+use eg_plan::RunInput;
 
 /// For each hundredth tick that a run may have, whether a run under a fault goes on from there.
 pub(crate) type Wanted = [bool; 200];

@@ -1,3 +1,5 @@
+pub mod Words
+pub mod Names
 pub mod Check
 pub mod Limits
 pub mod Coverage

@@ -1,3 +1,4 @@
 pub mod Lines
 pub mod Sources
 pub mod Readers
+pub mod Late

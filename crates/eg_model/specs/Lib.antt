@@ -9,6 +9,7 @@ pub mod Spans
 pub mod Engines
 pub mod Bench
 pub mod Rows
+pub mod EngineRuns
 pub mod Examples
 pub mod Premises
 pub mod Seeing

@@ -1,11 +1,9 @@
 -- Lines that are made and put one after another.
-use Rattle.std.proofs.Common.{◌≡◌, ◌∙◌, refl, sym, ap, subst, List, ℕ, suc, [], ◌∷◌, ◌++◌, ◌+◌, ◌<◌, map, take, drop, get_or, length}
+use Rattle.std.proofs.Common.{◌≡◌, ◌∙◌, refl, sym, ap, subst, List, ℕ, suc, [], ◌∷◌, ◌++◌, ◌+◌, ◌<◌, map, take, drop, get_or, length, append-nil, append_assoc, length-append, ◌≤◌, arith, Bool, true}
 use Rattle.std.specs.List.{concat}
-use Rattle.std.proofs.lemmas.List.{map-append}
+use Rattle.std.proofs.lemmas.List.{map-append, nil_from_length}
 use Rattle.std.proofs.lemmas.List.Folds.{concat-append}
-use Rattle.std.proofs.Common.{append-nil, append_assoc, length-append, ◌≤◌, arith, Bool, true}
 use Rattle.std.specs.Prelude.{◌==◌}
-use Rattle.std.proofs.lemmas.List.{nil_from_length}
 use Rattle.std.proofs.lemmas.Bool.{eqb-true}
 use Rattle.eg_base.specs.Outside.{ShownSink, Rose, Appends}
 use Rattle.eg_outcome.specs.Changes.{change}

@@ -7,3 +7,8 @@ pub mod Lines
 pub mod Reads
 pub mod Images
 pub mod Calibrations
+pub mod Campaigns
+pub mod Inputs
+pub mod Runs
+pub mod Shown
+pub mod Notes

@@ -8,6 +8,8 @@ pub mod Runs
 pub mod Names
 pub mod Campaign
 pub mod Ticks
+pub mod Playable
+pub mod DriveNumbers
 pub mod Rules
 pub mod Accepted
 pub use Rattle.eg_toml.specs.Documents

@@ -5,20 +5,28 @@
 #![tactic(auto)]
 
 mod contents;
+mod drive_number;
+mod drives;
 mod engine;
 mod fault;
 mod key;
 mod laws;
 mod reader;
 mod run;
+mod run_input;
+mod shared_items;
 mod slices;
 mod texts;
 mod ticks;
 
+pub use drive_number::{mixed, number_of_drive};
+pub use drives::Drives;
 pub use eg_plant::EngineKind;
 pub use key::{CampaignFault, RunKey};
 pub use laws::accepted_files_keep_the_rules;
 pub use reader::read_campaign;
 pub use run::RunPlan;
+pub use run_input::RunInput;
+pub use shared_items::SharedItems;
 pub use slices::usual_slices;
 pub use ticks::add_ticks;

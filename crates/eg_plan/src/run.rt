@@ -43,8 +43,8 @@ pub struct RunPlan {
     pub fault: Option<Fault>,
 }
 
-/// The run that a table says, which comes after the earlier runs and whose name none of them has, or its first
-/// refusal. Its name is put to theirs.
+/// The run that a table says, which comes after the earlier runs and whose name none of them has, or its
+/// first refusal. Its name is put to theirs.
 #[tactic(auto, unfolding(crate::specs::Runs::run_refusal, crate::specs::Checks::keys_refusal))]
 pub(crate) fn run_in<'a>(
     alloc: Global,

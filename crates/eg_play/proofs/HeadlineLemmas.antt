@@ -31,12 +31,22 @@ use Rattle.eg_laws.proofs.ShowingLaws.{records_show_runs}
 use Rattle.eg_model.proofs.WholeRecord.{are_rows}
 use Rattle.eg_tick.specs.Facts.{record_facts}
 use Rattle.eg_model.specs.Engines.{bench_of}
-use Rattle.eg_campaign.specs.Plays.{IsPlayable, EngineRun, rows_of_run, report_of_run, run_with}
-use Rattle.eg_campaign.specs.declared.play.RunInput.{RunInput}
+use Rattle.eg_model.specs.EngineRuns.{EngineRun, rows_of_run, report_of_run}
+use Rattle.eg_plan.specs.Playable.{IsPlayable}
+use Rattle.eg_campaign.specs.Plays.{run_with}
+use Rattle.eg_plan.specs.declared.run_input.RunInput.{RunInput}
 use Rattle.eg_play.specs.Headline.{KeepsHeadline}
 use Rattle.eg_play.specs.InWords.{AreShown, TellsInWords}
 use Rattle.eg_play.proofs.MarginLaws.{record_margins_are}
-use Rattle.eg_play.specs.Ends.{TellsWithinLimits}
+use Rattle.eg_base.specs.Outside.{ShownSink}
+use Rattle.eg_tick.specs.Weights.{TickCount}
+use Rattle.eg_campaign.specs.Groups.{rows_made}
+use Rattle.eg_outcome.specs.Changes.{Change}
+use Rattle.eg_outcome.specs.Outcomes.{LineEnds}
+use Rattle.eg_outcome.specs.declared.outcome.Outcome.{Outcome}
+use Rattle.eg_outcome.specs.declared.telling.Telling.{Telling}
+use Rattle.eg_play.specs.Texts.{runs_text}
+use Rattle.eg_play.specs.Ends.{AreTicked, Tells, TellsWithinLimits}
 
 -- ---- the headline ----
 
@@ -118,9 +128,6 @@ unfolding record_facts
 tells_within_limits cal accepted input is = records_keep_limits input.plan.engine (run_with cal input).run
     (record { accepted = accepted; drive = is.drive }) is.fault
 
-pub tell_within_limits : (cal : CalibrationParts) → IsAccepted cal → (inputs : List RunInput) → All IsPlayable inputs → All (TellsWithinLimits cal) inputs
-tell_within_limits cal accepted inputs playable = All-weaker IsPlayable (TellsWithinLimits cal) (tells_within_limits cal accepted) inputs playable
-
 -- ---- and in words ----
 
 cutting_rows : (rows : List Row) → AreRows rows → AreRows (map cutting_at rows)
@@ -148,5 +155,13 @@ tells_in_words cal accepted input =
       margins = record_margins_are (bench_of r.engine) r.run accepted;
     }
 
-pub tell_in_words : (cal : CalibrationParts) → IsAccepted cal → (inputs : List RunInput) → All IsPlayable inputs → All (TellsInWords cal) inputs
-tell_in_words cal accepted inputs playable = All-weaker IsPlayable (TellsInWords cal) (λ input is. tells_in_words cal accepted input) inputs playable
+-- ---- how runs are told ----
+
+pub tells : (telling : Telling) (cal : CalibrationParts) → IsAccepted cal → (inputs : List RunInput) → All IsPlayable inputs →
+    (out : Change ShownSink) (ticks : Change TickCount) (o : Outcome) → LineEnds (runs_text telling cal inputs) out o → AreTicked (rows_made cal inputs) ticks o →
+    Tells telling cal inputs out ticks o
+tells telling cal accepted inputs playable out ticks o written ticked = record {
+  plays = record { written = written; ticked = ticked; headline = keep_headline cal accepted inputs playable };
+  within_limits = All-weaker IsPlayable (TellsWithinLimits cal) (tells_within_limits cal accepted) inputs playable;
+  in_words = All-weaker IsPlayable (TellsInWords cal) (λ input is. tells_in_words cal accepted input) inputs playable;
+}

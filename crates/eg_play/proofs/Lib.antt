@@ -1,5 +1,3 @@
-pub mod NameLemmas
-pub mod InputsLemmas
 pub mod SurplusLaws
 pub mod MarginLaws
 pub mod LeastLimitLaws

@@ -1,5 +1,5 @@
 -- How runs that were played end.
-use Rattle.std.proofs.Common.{◌≡◌, ◌∙◌, refl, ap, ℕ, List, [], ◌∷◌, ◌++◌, All, map}
+use Rattle.std.proofs.Common.{◌≡◌, ◌∙◌, refl, ap, ℕ, List, [], ◌∷◌, ◌++◌, map}
 use Rattle.std.specs.List.{concat}
 use Rattle.eg_base.specs.Outside.{ShownSink, Appends, AppendsPrefix, Rose}
 use Rattle.eg_values.specs.Calibration.{CalibrationParts}
@@ -12,18 +12,19 @@ use Rattle.eg_outcome.specs.Outcomes.{LineEnds}
 use Rattle.eg_outcome.specs.declared.outcome.Outcome.{Outcome}
 use Rattle.eg_outcome.specs.declared.outcome.Outcome.TheVariants as outcome
 use Rattle.eg_base.proofs.AppendLemmas.{Appends-nil}
-use Rattle.eg_tick.specs.Counting.{count_with, RanOutAmong}
-use Rattle.eg_campaign.specs.Plays.{EngineRun, rows_in_time, run_with, report_with}
+use Rattle.eg_tick.specs.Counting.{count_with}
+use Rattle.eg_model.specs.EngineRuns.{rows_in_time}
+use Rattle.eg_campaign.specs.Plays.{run_with, report_with}
 use Rattle.eg_campaign.specs.Groups.{told_by}
-use Rattle.eg_campaign.specs.declared.play.RunInput.{RunInput}
+use Rattle.eg_plan.specs.declared.run_input.RunInput.{RunInput}
 use Rattle.eg_campaign.specs.Texts.{text_of, record_text}
 use Rattle.eg_campaign.specs.Recording.{IsStopped}
 use Rattle.eg_tick.proofs.CountLemmas.{out_at_end}
 use Rattle.eg_answer.specs.Times.{reaction_of}
-use Rattle.eg_play.specs.declared.telling.Columns.{Columns}
+use Rattle.eg_outcome.specs.declared.telling.Columns.{Columns}
 use Rattle.eg_play.specs.Texts.{report_text, rows_by, rows_text, weighs}
 use Rattle.eg_play.specs.Headline.{KeepsHeadline}
-use Rattle.eg_play.specs.Ends.{AreTicked, Plays, Records}
+use Rattle.eg_play.specs.Ends.{AreTicked, Records}
 
 -- ---- the texts ----
 
@@ -46,32 +47,13 @@ rows_are columns cal inputs = refl
 -- ---- what was put and counted ----
 
 -- all runs were counted, however the call ends
-ticked : (rows : List Row) (ticks : Change TickCount) (o : Outcome) → ticks.after ≡ count_with ticks.before rows → AreTicked rows ticks o
+pub ticked : (rows : List Row) (ticks : Change TickCount) (o : Outcome) → ticks.after ≡ count_with ticks.before rows → AreTicked rows ticks o
 ticked rows ticks outcome.Memory e = out_at_end ticks.before ticks.after rows e
 ticked rows ticks _ e = e
 
 -- memory ran out before anything was put
-pub no_memory : (text : List ℕ) (runs : List EngineRun) (rows : List Row) (out : ShownSink) (ticks : Change TickCount) → RanOutAmong rows ticks.before ticks.after →
-    All KeepsHeadline runs → Plays text runs rows (change out out) ticks outcome.Memory
-no_memory text runs rows out ticks counted headline = record {
-  written = (([], text, refl, Appends-nil out), refl);
-  ticked = counted;
-  headline = headline;
-}
-
--- the runs were played, and memory ran out before anything was put
-pub no_lines : (text : List ℕ) (runs : List EngineRun) (rows : List Row) (out : ShownSink) (ticks : Change TickCount) → ticks.after ≡ count_with ticks.before rows →
-    All KeepsHeadline runs → Plays text runs rows (change out out) ticks outcome.Memory
-no_lines text runs rows out ticks counted = no_memory text runs rows out ticks (ticked rows ticks outcome.Memory counted)
-
--- they were played, and their lines were put
-pub put : (text : List ℕ) (runs : List EngineRun) (rows : List Row) (out : Change ShownSink) (ticks : Change TickCount) (o : Outcome) →
-    ticks.after ≡ count_with ticks.before rows → LineEnds text out o → All KeepsHeadline runs → Plays text runs rows out ticks o
-put text runs rows out ticks o counted ends headline = record {
-  written = ends;
-  ticked = ticked rows ticks o counted;
-  headline = headline;
-}
+pub unwritten : (text : List ℕ) (out : ShownSink) → LineEnds text (change out out) outcome.Memory
+unwritten text out = (([], text, refl, Appends-nil out), refl)
 
 -- ---- a record ----
 

@@ -2,8 +2,8 @@
 use Rattle.std.proofs.Common.{◌≡◌, refl, ℕ, List, ◌++◌, map}
 use Rattle.std.specs.List.{concat, zip}
 use Rattle.eg_record.specs.declared.run_facts.RunFacts.{RunFacts}
-use Rattle.eg_campaign.specs.declared.play.RunInput.{RunInput}
-use Rattle.eg_play.specs.declared.telling.Columns.{Columns}
+use Rattle.eg_plan.specs.declared.run_input.RunInput.{RunInput}
+use Rattle.eg_outcome.specs.declared.telling.Columns.{Columns}
 use Rattle.eg_play.specs.Texts.{header_of, line_of, rows_by}
 
 pub rows_by-is : (columns : Columns) (bound : ℕ) (inputs : List RunInput) (told : List RunFacts) →

@@ -1,6 +1,6 @@
 -- The runs of a sweep: they may be played, and under listed faults they react in time.
 use Rattle.std.proofs.Common.{◌≡◌, ◌∙◌, refl, sym, ap, subst, ℕ, ◌*◌, ◌%◌, ◌^◌, ◌≤◌, Bool, true, false, List, All, map, length, Some, arith}
-use Rattle.std.specs.Prelude.{◌↔◌, ◌<◌, Result, Ok, Err, IsTrue}
+use Rattle.std.specs.Prelude.{◌↔◌, ◌<◌, Result, Err, IsTrue}
 use Rattle.std.proofs.Math.Nat.{mul-mod_left}
 use Rattle.std.proofs.lemmas.List.{length-map}
 use Rattle.std.proofs.lemmas.List.FromFn.{length-map-range_with_len}
@@ -16,9 +16,11 @@ use Rattle.eg_model.specs.Records.{IsRun}
 use Rattle.eg_laws.proofs.KindLaws.{keeps_of}
 use Rattle.eg_tick.specs.Facts.{IsWithoutReset, record_facts}
 use Rattle.eg_tick.proofs.FactLaws.{reaction_within}
-use Rattle.eg_campaign.specs.declared.play.RunInput.{RunInput}
+use Rattle.eg_plan.specs.declared.run_input.RunInput.{RunInput}
 use Rattle.eg_model.specs.Engines.{bench_of}
-use Rattle.eg_campaign.specs.Plays.{IsPlayable, EngineRun, run_with}
+use Rattle.eg_model.specs.EngineRuns.{EngineRun}
+use Rattle.eg_plan.specs.Playable.{IsPlayable}
+use Rattle.eg_campaign.specs.Plays.{run_with}
 use Rattle.eg_campaign.specs.Groups.{input_under, inputs_under, rows_of_group, facts_by}
 use Rattle.eg_tick.proofs.CountLemmas.{out_before}
 use Rattle.eg_table.specs.declared.grid.SweepFault.{SweepFault}
@@ -33,13 +35,14 @@ use Rattle.eg_base.specs.Outside.{ShownSink}
 use Rattle.eg_tick.specs.Weights.{TickCount}
 use Rattle.eg_outcome.specs.declared.outcome.Outcome.{Outcome}
 use Rattle.eg_outcome.specs.declared.outcome.Outcome.TheVariants as outcome
-use Rattle.eg_table.specs.Grid.{is_too_large}
 use Rattle.eg_table.specs.SweepTexts.{sweep_text_of}
 use Rattle.eg_outcome.specs.Changes.{Change, change}
-use Rattle.eg_play.specs.Ends.{Plays, Sweeps}
-use Rattle.eg_play.specs.Sweeping.{without_reset, without_resets, faults_over, runs_over, table_over, swept_text}
+use Rattle.eg_outcome.specs.Outcomes.{LineEnds}
+use Rattle.eg_play.specs.Ends.{AreTicked, Sweeps}
+use Rattle.eg_outcome.specs.Runs.{without_reset, without_resets}
+use Rattle.eg_play.specs.Sweeping.{faults_over, runs_over, table_over, swept_text}
 use Rattle.eg_play.proofs.HeadlineLemmas.{keep_headline}
-use Rattle.eg_play.proofs.PlayLemmas.{no_memory}
+use Rattle.eg_play.proofs.PlayLemmas.{unwritten}
 
 -- ---- they may be played ----
 
@@ -102,34 +105,33 @@ in_time cal accepted step some input playable =
 
 -- ---- how a sweep ends ----
 
--- the runs of an input under these faults were played, or memory ran out
-abbrev pub PlaysUnder : CalibrationParts → RunInput → List Fault → Change ShownSink → Change TickCount → Outcome → Type 0
-PlaysUnder cal input faults out ticks o = Plays (sweep_text_of (table_of faults (map (facts_by cal) (inputs_under input faults))))
-    (map (run_with cal) (inputs_under input faults)) (rows_of_group cal (inputs_under input faults)) out ticks o
+-- the text on the runs of an input under these faults was written, and their ticks were counted
+abbrev pub WritesUnder : CalibrationParts → RunInput → List Fault → Change ShownSink → Change TickCount → Outcome → Type 0
+WritesUnder cal input faults out ticks o = LineEnds (sweep_text_of (table_of faults (map (facts_by cal) (inputs_under input faults)))) out o
+    × AreTicked (rows_of_group cal (inputs_under input faults)) ticks o
 
 pub swept-ends : (cal : CalibrationParts) → IsAccepted cal → (step : ℕ) → 1 ≤ step → (input : RunInput) → IsPlayable input →
     (out : Change ShownSink) (ticks : Change TickCount) (o : Outcome) →
     (plain : RunInput) (faults : List Fault) → plain ≡ without_resets input → faults ≡ swept_faults (length input.drive) step →
-    PlaysUnder cal plain faults out ticks o → Sweeps cal step input out ticks o
+    WritesUnder cal plain faults out ticks o → Sweeps cal step input out ticks o
 unfolding swept_text table_over runs_over faults_over
-swept-ends cal accepted step some input playable out ticks o plain faults is are plays = record {
-  plays = subst (λ (fs : List Fault). PlaysUnder cal (without_resets input) fs out ticks o) are
-      (subst (λ (x : RunInput). PlaysUnder cal x faults out ticks o) is plays);
-  in_time = in_time cal accepted step some input playable;
-}
+swept-ends cal accepted step some input playable out ticks o plain faults is are writes =
+    let under = subst (λ (fs : List Fault). WritesUnder cal (without_resets input) fs out ticks o) are
+    (subst (λ (x : RunInput). WritesUnder cal x faults out ticks o) is writes) in
+    let all = all-playable (without_resets input) (swept_faults (length input.drive) step) (playable-without input playable)
+    (swept_valid (length input.drive) step playable.most some) in
+    record {
+      plays = record { written = under.0; ticked = under.1; headline = keep_headline cal accepted (runs_over step input) all };
+      in_time = in_time cal accepted step some input playable;
+    }
 
 -- memory ran out before the first tick
 pub not-swept : (cal : CalibrationParts) → IsAccepted cal → (step : ℕ) → 1 ≤ step → (input : RunInput) → IsPlayable input →
     (out : ShownSink) (was : TickCount) → was.count < 2 ^ 64 → was.weights < 2 ^ 64 →
     Sweeps cal step input (change out out) (change was was) outcome.Memory
 not-swept cal accepted step some input playable out was count weights =
-    let faults = swept_faults (length input.drive) step in
-    let plain = without_resets input in
-    let inputs = inputs_under plain faults in
-    swept-ends cal accepted step some input playable (change out out) (change was was) outcome.Memory plain faults refl refl
-    (no_memory (sweep_text_of (table_of faults (map (facts_by cal) inputs))) (map (run_with cal) inputs) (rows_of_group cal inputs) out (change was was)
-    (out_before was (rows_of_group cal inputs) count weights)
-    (keep_headline cal accepted inputs (all-playable plain faults (playable-without input playable) (swept_valid (length input.drive) step playable.most some))))
+    swept-ends cal accepted step some input playable (change out out) (change was was) outcome.Memory _ _ refl refl
+    (unwritten _ out, out_before was _ count weights)
 
 -- a grid that isn't too large isn't told to be
 pub never_large : {T : Type 0} (result : Result T SweepFault) (large : Bool) → ((result ≡ Err fault.Grid) ↔ IsTrue large) → large ≡ false →

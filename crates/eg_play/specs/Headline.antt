@@ -20,15 +20,14 @@ use Rattle.eg_model.specs.Engines.{BenchEngine, bench_of}
 use Rattle.eg_laws.specs.Showing.{ShowsRun}
 use Rattle.eg_model.specs.PowerCycles.{SpansBeginInTurn}
 use Rattle.eg_model.specs.Rows.{record_trap}
-use Rattle.eg_model.specs.Records.{ReactWithin, RowsReactAtOnce, CutFromOnset, CutOneTickAfter}
-use Rattle.eg_model.specs.Records.{CutSharplyBefore, CutStandingExcess, ExcessIsShort, AreOff, NeverFails}
+use Rattle.eg_model.specs.Records.{ReactWithin, RowsReactAtOnce, CutFromOnset, CutOneTickAfter, CutSharplyBefore, CutStandingExcess, ExcessIsShort, AreOff, NeverFails}
 use Rattle.eg_laws.specs.Findings.{FindsBeforeOff, FindsFailure, FindsFromOnset, FindsSharply, TellsFlips, NamesWhatCuts}
 use Rattle.eg_model.specs.Lapses.{IsLapse}
 use Rattle.eg_model.specs.Outputs.{with_level1, ActByOutputs}
 use Rattle.eg_laws.specs.Stretches.{RowsEndStretches, RowsEndStretchesAtOnce}
 use Rattle.eg_laws.specs.Bursts.{RowsAreSparse}
 use Rattle.eg_laws.specs.Availability.{AvailableIfSpaced}
-use Rattle.eg_campaign.specs.Plays.{EngineRun, rows_of_run, report_of_run}
+use Rattle.eg_model.specs.EngineRuns.{EngineRun, rows_of_run, report_of_run}
 
 -- What the headline says of the record of a run, by its engine, its setting, its drive, its rows, level 1's
 -- first trap, its report under each name, and its rows under each image and slice plan.

@@ -16,9 +16,10 @@ use Rattle.eg_record.specs.Stages.{IsFirstOff}
 use Rattle.eg_record.specs.Spans.{EachDriveSpan, spans_of}
 use Rattle.eg_record.specs.Margins.{is_tripped, surplus_at}
 use Rattle.eg_laws.specs.InWords.{IsPeak, IsLongestStretch, IsLongestReaction}
-use Rattle.eg_campaign.specs.Plays.{rows_of_run, run_with}
+use Rattle.eg_model.specs.EngineRuns.{rows_of_run}
+use Rattle.eg_campaign.specs.Plays.{run_with}
 use Rattle.eg_campaign.specs.Groups.{told_by, told_with}
-use Rattle.eg_campaign.specs.declared.play.RunInput.{RunInput}
+use Rattle.eg_plan.specs.declared.run_input.RunInput.{RunInput}
 
 -- ---- `table` ----
 

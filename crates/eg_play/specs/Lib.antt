@@ -1,5 +1,3 @@
-pub mod Files
-pub mod Inputs
 pub mod Headline
 pub mod InWords
 pub mod LeastLimits

@@ -10,11 +10,11 @@ use Rattle.eg_table.specs.Texts.{table_header, table_line}
 use Rattle.eg_table.specs.Margins.{margins_header, margins_line}
 use Rattle.eg_campaign.specs.Plays.{report_with}
 use Rattle.eg_campaign.specs.Groups.{told_by}
-use Rattle.eg_campaign.specs.declared.play.RunInput.{RunInput}
-use Rattle.eg_play.specs.declared.telling.Telling.{Telling}
-use Rattle.eg_play.specs.declared.telling.Telling.TheVariants.{Report, Rows}
-use Rattle.eg_play.specs.declared.telling.Columns.{Columns}
-use Rattle.eg_play.specs.declared.telling.Columns.TheVariants.{Table, Margins}
+use Rattle.eg_plan.specs.declared.run_input.RunInput.{RunInput}
+use Rattle.eg_outcome.specs.declared.telling.Telling.{Telling}
+use Rattle.eg_outcome.specs.declared.telling.Telling.TheVariants.{Report, Rows}
+use Rattle.eg_outcome.specs.declared.telling.Columns.{Columns}
+use Rattle.eg_outcome.specs.declared.telling.Columns.TheVariants.{Table, Margins}
 
 -- the report: a line for each run in the campaign's order, and a last line
 unfoldable pub report_text : CalibrationParts → List RunInput → List ℕ

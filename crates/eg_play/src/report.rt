@@ -1,17 +1,18 @@
 // The report and the record are written.
-ghost use Rattle.std.specs.Prelude.{All, map};
+ghost use Rattle.std.specs.Prelude.{All};
 ghost use Rattle.eg_campaign.specs.Groups.{rows_made};
-ghost use Rattle.eg_campaign.specs.Plays.{IsPlayable, run_with};
+ghost use Rattle.eg_plan.specs.Playable.{IsPlayable};
 ghost use Rattle.eg_outcome.specs.Changes.{change, change_of};
+ghost use Rattle.eg_outcome.specs.Outcomes.{LineEnds};
 ghost use Rattle.eg_play.specs.Texts.{report_text};
-ghost use Rattle.eg_play.specs.Ends.{Plays, Records, Tells};
+ghost use Rattle.eg_play.specs.Ends.{AreTicked, Records, Tells};
 
-use crate::Telling;
 use crate::rows::put_rows;
 use crate::texts::report_lines;
 use eg_base::Sink;
-use eg_campaign::{RecordStop, RunInput, record_into, run_all};
-use eg_outcome::{Outcome, put_lines};
+use eg_campaign::{RecordStop, record_into, run_all};
+use eg_outcome::{Outcome, Telling, put_lines};
+use eg_plan::RunInput;
 use eg_tick::Ticks;
 use eg_values::Calibration;
 use std::alloc::Global;
@@ -48,12 +49,10 @@ fn put_report<K: Sink>(
     steps: &mut Ticks,
 ) -> Outcome
     requires { All IsPlayable inputs.now }
-    ensures { Plays (report_text calibration.now inputs.now)
-        (map (run_with calibration.now) inputs.now) (rows_made calibration.now inputs.now)
-        (change_of K.shows out.old out.new) (change steps.old steps.new) result }
+    ensures written { LineEnds (report_text calibration.now inputs.now)
+        (change_of K.shows out.old out.new) result }
+    ensures ticked { AreTicked (rows_made calibration.now inputs.now) (change steps.old steps.new) result }
 {
-    // Called for its clause alone: the calibration is an accepted one.
-    let _rules = calibration.rules();
     let Ok(summaries) = run_all(alloc, calibration, inputs, steps) else {
         return Outcome::Memory;
     };

@@ -1,16 +1,17 @@
 // The rows of `table` and of `margins` are written.
-ghost use Rattle.std.specs.Prelude.{◌≡◌, ◌++◌, All, map, IfOk, OnOk, string_bytes};
+ghost use Rattle.std.specs.Prelude.{◌≡◌, ◌++◌, All, IfOk, OnOk, string_bytes};
 ghost use Rattle.eg_campaign.specs.Groups.{AreTold, rows_made, told_by};
-ghost use Rattle.eg_campaign.specs.Plays.{IsPlayable, run_with};
+ghost use Rattle.eg_plan.specs.Playable.{IsPlayable};
 ghost use Rattle.eg_outcome.specs.Changes.{change, change_of};
+ghost use Rattle.eg_outcome.specs.Outcomes.{LineEnds};
 ghost use Rattle.eg_play.specs.Texts.{header_of, line_of, rows_by, rows_text, weighs};
-ghost use Rattle.eg_play.specs.Ends.{Plays};
+ghost use Rattle.eg_play.specs.Ends.{AreTicked};
 
-use crate::Columns;
 use eg_answer::reaction;
 use eg_base::{NoMemory, Sink};
-use eg_campaign::{RunInput, told_all};
-use eg_outcome::{Outcome, put_text};
+use eg_campaign::told_all;
+use eg_outcome::{Columns, Outcome, put_text};
+use eg_plan::RunInput;
 use eg_record::RunFacts;
 use eg_table::{margins_header, push_margins_line, push_table_line, table_header};
 use eg_tick::Ticks;
@@ -28,12 +29,10 @@ pub(crate) fn put_rows<K: Sink>(
     steps: &mut Ticks,
 ) -> Outcome
     requires { All IsPlayable inputs.now }
-    ensures { Plays (rows_text columns calibration.now inputs.now)
-        (map (run_with calibration.now) inputs.now) (rows_made calibration.now inputs.now)
-        (change_of K.shows out.old out.new) (change steps.old steps.new) result }
+    ensures written { LineEnds (rows_text columns calibration.now inputs.now)
+        (change_of K.shows out.old out.new) result }
+    ensures ticked { AreTicked (rows_made calibration.now inputs.now) (change steps.old steps.new) result }
 {
-    // Called for its clause alone: the calibration is an accepted one.
-    let _rules = calibration.rules();
     let Ok(told) = told_for(alloc, columns, calibration, inputs, steps) else {
         return Outcome::Memory;
     };

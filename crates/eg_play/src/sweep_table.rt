@@ -1,19 +1,20 @@
 // The table of a sweep is written.
-ghost use Rattle.std.specs.Prelude.{◌≡◌, ◌≤◌, All, map, length};
+ghost use Rattle.std.specs.Prelude.{◌≤◌, All, map, length};
 ghost use Rattle.eg_fault.specs.Faults.{IsValid};
 ghost use Rattle.eg_campaign.specs.Groups.{inputs_under, rows_of_group, facts_by};
-ghost use Rattle.eg_campaign.specs.Plays.{IsPlayable, run_with};
+ghost use Rattle.eg_plan.specs.Playable.{IsPlayable};
 ghost use Rattle.eg_table.specs.Sweep.{table_of};
 ghost use Rattle.eg_table.specs.SweepTexts.{sweep_text_of};
 ghost use Rattle.eg_outcome.specs.Changes.{change, change_of};
-ghost use Rattle.eg_play.specs.Ends.{Plays, Sweeps};
-ghost use Rattle.eg_play.specs.Sweeping.{IsSweepable};
+ghost use Rattle.eg_outcome.specs.Outcomes.{LineEnds};
+ghost use Rattle.eg_play.specs.Ends.{AreTicked, Sweeps};
+ghost use Rattle.eg_outcome.specs.Runs.{IsSweepable};
 
-use crate::swept::without_resets;
 use eg_base::Sink;
-use eg_campaign::{RunInput, facts_under};
+use eg_campaign::facts_under;
 use eg_fault::Fault;
-use eg_outcome::{Outcome, put_text};
+use eg_outcome::{Outcome, put_text, without_resets};
+use eg_plan::RunInput;
 use eg_table::{SweepFault, sweep_faults, sweep_text, tabulate};
 use eg_tick::Ticks;
 use eg_values::Calibration;
@@ -61,14 +62,12 @@ fn put_rows<K: Sink>(
     requires valid { All IsValid faults.now }
     requires group { 2 ≤ length faults.now }
     requires most { length faults.now ≤ 1000 }
-    ensures { Plays (sweep_text_of (table_of faults.now
+    ensures written { LineEnds (sweep_text_of (table_of faults.now
         (map (facts_by calibration.now) (inputs_under input.now faults.now))))
-        (map (run_with calibration.now) (inputs_under input.now faults.now))
-        (rows_of_group calibration.now (inputs_under input.now faults.now))
-        (change_of K.shows out.old out.new) (change steps.old steps.new) result }
+        (change_of K.shows out.old out.new) result }
+    ensures ticked { AreTicked (rows_of_group calibration.now (inputs_under input.now faults.now))
+        (change steps.old steps.new) result }
 {
-    // Called for its clause alone: the calibration is an accepted one.
-    let _rules = calibration.rules();
     let Ok(facts) = facts_under(alloc, calibration, input, faults, steps) else {
         return Outcome::Memory;
     };

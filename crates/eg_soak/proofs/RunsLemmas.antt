@@ -5,7 +5,7 @@ use Rattle.eg_record.specs.declared.row.Row.{Row}
 use Rattle.eg_model.specs.Engines.{gasoline}
 use Rattle.eg_tick.specs.Weights.{TickCount}
 use Rattle.eg_tick.specs.Counting.{count_with}
-use Rattle.eg_campaign.specs.Plays.{rows_in_time, rows_of_runs}
+use Rattle.eg_model.specs.EngineRuns.{rows_in_time, rows_of_runs}
 use Rattle.eg_tick.proofs.CountLemmas.{counts_more, long}
 use Rattle.eg_draw.specs.declared.runs.DrawnRun.{DrawnRun}
 use Rattle.eg_draw.specs.Runs.{drawn_run, state_after}

@@ -8,7 +8,7 @@ use Rattle.eg_record.specs.Facts.{reaction_in}
 use Rattle.eg_model.specs.Rows.{record_trap}
 use Rattle.eg_tick.specs.Facts.{record_facts}
 use Rattle.eg_model.specs.Engines.{bench_of}
-use Rattle.eg_campaign.specs.Plays.{EngineRun}
+use Rattle.eg_model.specs.EngineRuns.{EngineRun}
 use Rattle.eg_soak.specs.declared.facts.DrawnFacts.{DrawnFacts}
 
 -- what counts of a run with these facts, in which level 1 traps or doesn't; a run that has no reaction counts

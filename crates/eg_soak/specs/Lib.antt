@@ -1,4 +1,4 @@
 pub mod Facts
 pub mod Soak
 pub mod Texts
-pub use Rattle.eg_campaign.specs.Plays
+pub use Rattle.eg_model.specs.EngineRuns

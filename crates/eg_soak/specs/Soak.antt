@@ -9,7 +9,7 @@ use Rattle.eg_model.specs.Bench.{Run}
 use Rattle.eg_tick.specs.Run.{run_by}
 use Rattle.eg_plan.specs.Contents.{usual_slices}
 use Rattle.eg_plant.specs.declared.engine_kind.EngineKind.TheVariants as kind
-use Rattle.eg_campaign.specs.Plays.{EngineRun}
+use Rattle.eg_model.specs.EngineRuns.{EngineRun}
 use Rattle.eg_draw.specs.declared.runs.DrawnRun.{DrawnRun}
 use Rattle.eg_draw.specs.Runs.{drawn_run, state_after}
 use Rattle.eg_soak.specs.declared.facts.DrawnFacts.{DrawnFacts}

@@ -3,7 +3,7 @@ ghost use Rattle.std.specs.Prelude.{◌≡◌};
 ghost use Rattle.eg_values.specs.Reference.{reference_parts};
 ghost use Rattle.eg_draw.specs.Runs.{IsDrawn};
 ghost use Rattle.eg_tick.specs.Counting.{count_with};
-ghost use Rattle.eg_campaign.specs.Plays.{rows_in_time};
+ghost use Rattle.eg_model.specs.EngineRuns.{rows_in_time};
 ghost use Rattle.eg_soak.specs.Facts.{facts_in, drawn_facts, is_first};
 ghost use Rattle.eg_soak.specs.Soak.{run_drawn};
 

@@ -2,7 +2,7 @@
 ghost use Rattle.std.specs.Prelude.{◌≡◌, ℕ, ◌+◌, ◌≤◌, ◌*◌, length, map, IfOk, OnOk, OnErr};
 ghost use Rattle.std.specs.List.{sum};
 ghost use Rattle.eg_tick.specs.Counting.{count_with, AreCounted};
-ghost use Rattle.eg_campaign.specs.Plays.{rows_of_runs};
+ghost use Rattle.eg_model.specs.EngineRuns.{rows_of_runs};
 ghost use Rattle.eg_soak.specs.Facts.{drawn_facts};
 ghost use Rattle.eg_soak.specs.Soak.{drawn_runs, soak_of};
 

@@ -10,7 +10,7 @@ use Rattle.eg_record.specs.declared.row.Row.{Row}
 use Rattle.eg_model.specs.History.{Setting, Entry}
 use Rattle.eg_model.specs.Spans.{next}
 use Rattle.eg_model.specs.Rows.{row_of}
-use Rattle.eg_campaign.specs.declared.play.RunInput.{RunInput}
+use Rattle.eg_plan.specs.declared.run_input.RunInput.{RunInput}
 use Rattle.eg_tick.specs.Kept.{ControllerParts}
 use Rattle.eg_tick.specs.Stands.{Stands}
 use Rattle.eg_tick.specs.Advancing.{entry_of, IsTick}

@@ -7,7 +7,7 @@ use Rattle.eg_plant.specs.Engine.{Shown}
 use Rattle.eg_input.specs.Answering.{answer_of}
 use Rattle.eg_input.specs.declared.answered.PartnerAnswer.{PartnerAnswer}
 use Rattle.eg_values.specs.Calibration.{CalibrationParts}
-use Rattle.eg_campaign.specs.declared.play.RunInput.{RunInput}
+use Rattle.eg_plan.specs.declared.run_input.RunInput.{RunInput}
 use Rattle.eg_model.specs.History.{Setting, Entry, Moment}
 use Rattle.eg_model.specs.Spans.{moments}
 use Rattle.eg_model.specs.Rows.{rows_of}

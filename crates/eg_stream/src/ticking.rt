@@ -10,11 +10,11 @@ ghost use Rattle.eg_tick.specs.Weights.{weight_of};
 ghost use Rattle.eg_stream.specs.Coupled.{CoupledUnit, unit_of, entry_by, entries_by, lawful, taken};
 ghost use Rattle.eg_stream.specs.Running.{IsCoupled};
 
-use eg_campaign::RunInput;
 use eg_fault::Fault;
 use eg_guard::FlatMemory;
 use eg_host::SlicePlan;
 use eg_input::PartnerAnswer;
+use eg_plan::RunInput;
 use eg_plant::ForeignEngine;
 use eg_record::Row;
 use eg_tick::{Commands, Controller, Ticks};

@@ -46,8 +46,8 @@ watch_columns (Some found) = codes "," ++ watch_name found.0 ++ codes "," ++ dec
 -- from `off_at` to `bound`, the worst-case reaction: whether the run is settled is told where an excess is
 -- confirmed in some span
 unfoldable pub number_columns : (bound : ℕ) → RunFacts → List ℕ
-number_columns bound told = concat (map number_column (told.facts.off ∷ told.facts.last_on ∷ told.facts.confirmed
-    ∷ Some told.facts.stretch ∷ Some told.facts.peak ∷ told.reactions.longest
+number_columns bound told = concat (map number_column (told.facts.off ∷ told.facts.last_on
+    ∷ told.facts.confirmed ∷ Some told.facts.stretch ∷ Some told.facts.peak ∷ told.reactions.longest
     ∷ option_map (λ _. digit (is_settled bound told.reactions)) told.reactions.followed ∷ Some bound ∷ []))
 
 -- `trap` and `trap_at`

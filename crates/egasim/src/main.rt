@@ -1,27 +1,15 @@
 //! `egasim` plays drive traces against three-level engine-torque monitoring.
 #![tactic(auto)]
 
-mod late_lines;
-mod trusted_store;
-
-use crate::late_lines::LateLines;
-use crate::trusted_store::TrustedStore;
 use eg_app::egasim_on_lines;
 use eg_base::StdSink;
+use eg_desk::command_words;
+use eg_lines::LateLines;
+use eg_outcome::TrustedStore;
 use eg_tick::Ticks;
-use std::alloc::{AllocError, Global};
-use std::env::Env;
+use std::alloc::Global;
+use std::io;
 use std::process::ExitCode;
-use std::{env, io};
-
-/// The words of the command line, without the program's name.
-fn command_words(rt: &(impl Env + AllocGlobal)) -> io::Result<Vec<String>> {
-    let mut words = Vec::new(rt.alloc());
-    for word in env::args(rt)?.skip(1) {
-        words.push(word)?;
-    }
-    Ok(words)
-}
 
 /// The exit status where no memory is found for the words.
 const NO_MEMORY: u8 = 6;

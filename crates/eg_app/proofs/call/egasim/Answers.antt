@@ -1,7 +1,7 @@
 use Rattle.std.proofs.Common.{subst}
 use Rattle.eg_lines.specs.Lines.{ShownLines}
 use Rattle.eg_outcome.specs.Changes.{change, change_of}
-use Rattle.eg_app.specs.Words.{command_of, word_bytes}
+use Rattle.eg_desk.specs.Words.{command_of, word_bytes}
 use Rattle.eg_app.specs.Ends.{Completes}
 use Rattle.eg_app.proofs.EndsLemmas.{none_shown, without_lines}
 use Rattle.eg_app.proofs.call.egasim.Goals as goal

@@ -1,6 +1,6 @@
 use Rattle.std.proofs.Common.{◌∙◌, Option, Some, ap, sym, subst, option_map}
 use Rattle.eg_outcome.specs.Changes.{change, change_of}
-use Rattle.eg_app.specs.Words.{Command, said}
+use Rattle.eg_desk.specs.Words.{Command, said}
 use Rattle.eg_app.specs.Ends.{Completes, call}
 use Rattle.eg_app.specs.Headline.{TellsHeadline}
 use Rattle.eg_app.proofs.EndsLemmas.{completes}

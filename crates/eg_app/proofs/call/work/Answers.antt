@@ -2,8 +2,8 @@ use Rattle.std.proofs.Common.{◌≡◌, ◌∙◌, ap, sym, refl, subst, Option
 use Rattle.eg_base.specs.Outside.{ShownStore}
 use Rattle.eg_outcome.specs.Changes.{change, change_of}
 use Rattle.eg_outcome.specs.declared.outcome.Outcome.{Outcome}
-use Rattle.eg_app.specs.Words.{said}
-use Rattle.eg_app.specs.Notes.{Names}
+use Rattle.eg_desk.specs.Words.{said}
+use Rattle.eg_desk.specs.Names.{Names}
 use Rattle.eg_app.specs.Performed.{takes_lines}
 use Rattle.eg_app.proofs.MissingLemmas.{missing_since}
 use Rattle.eg_app.proofs.WorkLemmas.{IsWork, performed, work_memory, work_names, work_reads, same_lines, nothing_done}

@@ -2,8 +2,8 @@ use Rattle.std.proofs.Common.{refl, subst}
 use Rattle.std.specs.Option.{option_copied}
 use Rattle.eg_base.specs.Outside.{ShownStore}
 use Rattle.eg_outcome.specs.Changes.{change}
-use Rattle.eg_play.specs.Inputs.{outcomes}
-use Rattle.eg_app.specs.Words.{said_work}
+use Rattle.eg_outcome.specs.Inputs.{outcomes}
+use Rattle.eg_desk.specs.Words.{said_work}
 use Rattle.eg_app.specs.Gathered.{GathersBy}
 use Rattle.eg_app.specs.Missing.{EndsBy, TellsMissingOwn}
 use Rattle.eg_app.proofs.MissingLemmas.{missing_behind}

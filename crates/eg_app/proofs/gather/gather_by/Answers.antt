@@ -1,5 +1,5 @@
 use Rattle.std.specs.Prelude.{Result, Err}
-use Rattle.eg_campaign.specs.declared.play.RunInput.{RunInput}
+use Rattle.eg_plan.specs.declared.run_input.RunInput.{RunInput}
 use Rattle.eg_outcome.specs.declared.outcome.Outcome.{Outcome}
 use Rattle.eg_app.proofs.MissingLemmas.{ends_by}
 use Rattle.eg_app.proofs.gather.gather_by.Goals as goal

@@ -6,8 +6,8 @@ use Rattle.eg_fault.specs.declared.class.Fault.{Fault}
 use Rattle.eg_fault.specs.Faults.{IsNoneOrValid}
 use Rattle.eg_tick.specs.Counting.{count_with, AreCounted}
 use Rattle.eg_tick.proofs.CountLemmas.{counted_err}
-use Rattle.eg_campaign.specs.declared.play.RunInput.{RunInput}
-use Rattle.eg_campaign.specs.Plays.{IsPlayable}
+use Rattle.eg_plan.specs.declared.run_input.RunInput.{RunInput}
+use Rattle.eg_plan.specs.Playable.{IsPlayable}
 use Rattle.eg_campaign.specs.Groups.{is_alike, input_under, own_on, rows_shared, told_on, written_over}
 use Rattle.eg_campaign.proofs.OneGroup.{Counted, begun, more, said, stopped, ended, shared_of, rest-when, wrote, left, all_written, written-when}
 use Rattle.eg_campaign.proofs.LeaderLemmas.{item, one_item, leader-at, none-before, led-here, led-elsewhere}

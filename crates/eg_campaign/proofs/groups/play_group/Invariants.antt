@@ -2,7 +2,7 @@ use Rattle.std.proofs.Common.{◌≡◌, ◌≤◌, map, drop, length, not, ◌=
 use Rattle.std.specs.Prelude.{filter, slice_index_or}
 use Rattle.std.specs.List.{flat_map}
 use Rattle.eg_record.specs.declared.run_facts.RunFacts.{RunFacts}
-use Rattle.eg_campaign.specs.declared.play.RunInput.{RunInput}
+use Rattle.eg_plan.specs.declared.run_input.RunInput.{RunInput}
 use Rattle.eg_campaign.specs.Groups.{is_alike, own_on, rows_shared, told_on, written_over}
 use Rattle.eg_campaign.proofs.OneGroup.{Counted, written_to}
 use Rattle.eg_campaign.proofs.groups.play_group.Given as goal

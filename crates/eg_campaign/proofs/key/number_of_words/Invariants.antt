@@ -1,5 +1,5 @@
 use Rattle.std.proofs.Common.{◌≡◌, fold, drop}
-use Rattle.eg_campaign.specs.Keys.{mixed}
+use Rattle.eg_plan.specs.DriveNumbers.{mixed}
 use Rattle.eg_campaign.proofs.key.number_of_words.Given as goal
 
 -- the words that are left make of the number so far what all make

@@ -3,7 +3,8 @@ use Rattle.std.proofs.lemmas.Result.{IfOk-weaker}
 use Rattle.eg_answer.specs.Times.{reaction_of}
 use Rattle.eg_record.specs.declared.run_facts.RunFacts.{RunFacts}
 use Rattle.eg_tick.specs.Facts.{record_facts}
-use Rattle.eg_campaign.specs.Plays.{run_with, rows_of_run}
+use Rattle.eg_model.specs.EngineRuns.{rows_of_run}
+use Rattle.eg_campaign.specs.Plays.{run_with}
 use Rattle.eg_campaign.proofs.PlayLemmas.{report_is}
 use Rattle.eg_campaign.proofs.play.report_one.Goals as goal
 

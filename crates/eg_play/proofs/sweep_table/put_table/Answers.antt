@@ -1,7 +1,7 @@
-use Rattle.std.proofs.Common.{◌∙◌, refl, sym, ap, subst, ◌<◌, ◌≤◌, All, length}
+use Rattle.std.proofs.Common.{◌∙◌, sym, ap, subst, ◌<◌, ◌≤◌, All, length}
 use Rattle.eg_table.specs.Grid.{swept_faults}
 use Rattle.eg_fault.specs.Faults.{IsValid}
-use Rattle.eg_campaign.specs.Plays.{IsPlayable}
+use Rattle.eg_plan.specs.Playable.{IsPlayable}
 use Rattle.eg_outcome.specs.Changes.{change, change_of}
 use Rattle.eg_play.proofs.SweepLemmas.{playable-without, are_more, swept-ends, not-swept, never_large}
 use Rattle.eg_play.proofs.sweep_table.put_table.Goals as goal
@@ -38,4 +38,4 @@ returns g c =
     (change_of g.K.Sink.shows a.out.now c.put_rows.new.out) (change a.steps.now c.put_rows.new.steps) c.put_rows.result
     c.in-Ok-without_resets.input c.deref.result.now c.in-Ok-without_resets.ensures
     (c.deref.ensures.value ∙ c.in-Ok.ensures.faults ∙ ap (λ drive. swept_faults (length drive) a.step) c.as_slice.ensures)
-    c.put_rows.ensures
+    (c.put_rows.ensures.written, c.put_rows.ensures.ticked)

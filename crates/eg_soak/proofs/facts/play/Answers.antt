@@ -6,8 +6,7 @@ use Rattle.eg_model.specs.Engines.{gasoline}
 use Rattle.eg_tick.specs.Facts.{record_facts}
 use Rattle.eg_tick.specs.Run.{run_by}
 use Rattle.eg_tick.specs.Counting.{count_with}
-use Rattle.eg_campaign.specs.Plays.{EngineRun, rows_in_time}
-use Rattle.eg_campaign.proofs.PlayLemmas.{same_run}
+use Rattle.eg_model.specs.EngineRuns.{EngineRun, rows_in_time}
 use Rattle.eg_soak.specs.Facts.{drawn_facts}
 use Rattle.eg_soak.specs.Soak.{on_gasoline, run_drawn}
 use Rattle.eg_tick.proofs.CountLemmas.{counts_record}
@@ -24,7 +23,9 @@ abbrev played : After-of → EngineRun
 played c = on_gasoline (run_by c.args.calibration.now c.as_slice-image.result.now (option_copied c.as_ref-fault.result) c.usual_slices-plan.result c.as_slice-drive.result.now)
 
 is_drawn : (c : After-of) → played c ≡ run_drawn c.args.drawn.now
-is_drawn c = ap on_gasoline (same_run _ _ _ _ _ _ _ _ _ _ c.requires.calibration c.as_slice-image.ensures c.as_ref-fault.ensures.value c.usual_slices-plan.ensures c.as_slice-drive.ensures)
+is_drawn c =
+    let cal = c.requires.calibration in let image = c.as_slice-image.ensures in let fault = c.as_ref-fault.ensures.value in
+    let plan = c.usual_slices-plan.ensures in let drive = c.as_slice-drive.ensures in cc
 
 pub returns-clause-facts : goal.returns-clause-facts
 unfolding record_facts

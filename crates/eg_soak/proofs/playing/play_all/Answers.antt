@@ -2,7 +2,7 @@ use Rattle.std.proofs.Common.{◌≡◌, ◌∙◌, sym, ap, ap₂, subst, ◌+�
 use Rattle.std.proofs.lemmas.Grind.{common_steps}
 use Rattle.std.proofs.lemmas.List.{length-map}
 use Rattle.eg_base.proofs.ResultLemmas.{at_err}
-use Rattle.eg_campaign.specs.Plays.{rows_of_runs}
+use Rattle.eg_model.specs.EngineRuns.{rows_of_runs}
 use Rattle.eg_tick.proofs.CountLemmas.{counts_none}
 use Rattle.eg_soak.specs.Facts.{drawn_facts}
 use Rattle.eg_soak.specs.Soak.{drawn_runs}

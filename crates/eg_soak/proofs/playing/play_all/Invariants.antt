@@ -1,6 +1,6 @@
 use Rattle.std.proofs.Common.{◌≡◌, map}
 use Rattle.eg_tick.specs.Counting.{count_with}
-use Rattle.eg_campaign.specs.Plays.{rows_of_runs}
+use Rattle.eg_model.specs.EngineRuns.{rows_of_runs}
 use Rattle.eg_soak.specs.Facts.{drawn_facts}
 use Rattle.eg_soak.specs.Soak.{drawn_runs}
 use Rattle.eg_soak.proofs.RunsLemmas.{state_of}

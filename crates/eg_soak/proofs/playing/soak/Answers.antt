@@ -1,6 +1,6 @@
 use Rattle.std.proofs.Common.{◌≡◌, ◌∙◌, sym, ap, subst, ◌+◌, length, map}
 use Rattle.std.specs.List.{sum}
-use Rattle.eg_campaign.specs.Plays.{rows_of_runs}
+use Rattle.eg_model.specs.EngineRuns.{rows_of_runs}
 use Rattle.eg_tick.proofs.CountLemmas.{counted_err, out_behind}
 use Rattle.eg_soak.specs.Facts.{drawn_facts}
 use Rattle.eg_soak.specs.Soak.{drawn_runs}

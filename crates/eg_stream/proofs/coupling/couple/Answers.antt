@@ -2,7 +2,7 @@ use Rattle.std.proofs.Common.{◌≡◌, ◌∙◌, ℕ, ◌+◌, ◌<◌, ◌�
 use Rattle.eg_input.specs.declared.answered.PartnerAnswer.{PartnerAnswer}
 use Rattle.eg_input.specs.declared.answered.TheConstants.{MOST_ANSWER_BYTES}
 use Rattle.eg_values.specs.Calibration.{CalibrationParts}
-use Rattle.eg_campaign.specs.declared.play.RunInput.{RunInput}
+use Rattle.eg_plan.specs.declared.run_input.RunInput.{RunInput}
 use Rattle.eg_plant.specs.Foreign.{Foreign}
 use Rattle.eg_lines.specs.Lines.{ShownLines}
 use Rattle.eg_tick.specs.Kept.{ControllerParts}

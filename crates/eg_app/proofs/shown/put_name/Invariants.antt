@@ -1,5 +1,0 @@
-use Rattle.eg_app.proofs.ShownLemmas.{HasPut}
-use Rattle.eg_app.proofs.shown.put_name.Given as goal
-
-abbrev pub invariant-loop-i : goal.invariant-loop-i
-invariant-loop-i g l = HasPut (g.N.Sink.shows l.initial.notes) (g.N.Sink.shows l.notes) l.name l.before l.i

@@ -1,0 +1,117 @@
+-- Outside the headline. The one line that notes how a call ended. A call that did its work gets none.
+use Rattle.std.specs.Prelude.{ℕ, List, [], ◌++◌, codes, decimal, IsTrue}
+use Rattle.eg_base.specs.Outside.{ShownSink, Rose, Appends, AppendsPrefix}
+use Rattle.eg_input.specs.declared.fault.TraceFault.{TraceFault}
+use Rattle.eg_input.specs.declared.fault.TraceFault.TheVariants as trace_fault
+use Rattle.eg_input.specs.declared.fault.ImageFault.{ImageFault}
+use Rattle.eg_input.specs.declared.fault.ImageFault.TheVariants as image_fault
+use Rattle.eg_asm.specs.declared.fault.AsmFault.{AsmFault}
+use Rattle.eg_asm.specs.declared.fault.AsmFault.TheVariants as asm_fault
+use Rattle.eg_cal.specs.declared.key.CalFault.{CalFault}
+use Rattle.eg_cal.specs.declared.key.CalFault.TheVariants as cal_fault
+use Rattle.eg_cal.specs.Keys.{text_of}
+use Rattle.eg_plan.specs.declared.key.CampaignFault.{CampaignFault}
+use Rattle.eg_plan.specs.declared.key.CampaignFault.TheVariants as campaign_fault
+use Rattle.eg_plan.specs.Keys.{text_of as run_key_text}
+use Rattle.eg_outcome.specs.Changes.{Change}
+use Rattle.eg_outcome.specs.declared.outcome.Outcome.{Outcome}
+use Rattle.eg_outcome.specs.declared.outcome.Outcome.TheVariants as outcome
+use Rattle.eg_outcome.specs.declared.outcome.AnswerFault.{AnswerFault}
+use Rattle.eg_outcome.specs.declared.outcome.AnswerFault.TheVariants as answer_fault
+use Rattle.eg_outcome.specs.declared.outcome.Refusal.{Refusal}
+use Rattle.eg_outcome.specs.declared.outcome.Refusal.TheVariants as refusal
+use Rattle.eg_outcome.specs.declared.says.Says.{Says}
+use Rattle.eg_outcome.specs.declared.says.Says.TheVariants as says
+use Rattle.eg_outcome.specs.Shown.{shown_name}
+
+-- ---- the line ----
+
+-- the line that says this of a file of this name
+abbrev pub line_of : (file text : List ℕ) → List ℕ
+line_of file text = shown_name file ++ (codes ": " ++ (text ++ codes "\n"))
+
+-- what is said of a calibration's fault
+abbrev pub calibration_text : CalFault → List ℕ
+calibration_text cal_fault.Memory = codes "no memory"
+calibration_text cal_fault.Text = codes "not TOML"
+calibration_text (cal_fault.Key key) = codes "key " ++ text_of key
+calibration_text (cal_fault.Axis key) = codes "axis " ++ text_of key
+calibration_text (cal_fault.Rising row) = codes "row " ++ decimal row ++ codes " falls"
+calibration_text cal_fault.Window = codes "answer window"
+calibration_text (cal_fault.Answer index) = codes "answer " ++ decimal index
+
+-- what is said of a fault of the records of a check file or a trace
+abbrev pub trace_text : TraceFault → List ℕ
+trace_text trace_fault.Memory = codes "no memory"
+trace_text trace_fault.Header = codes "header"
+trace_text (trace_fault.Row line) = codes "record " ++ decimal line
+trace_text trace_fault.Empty = codes "no records"
+trace_text trace_fault.Long = codes "more than 20000 records"
+
+-- what is said of an answer that breaks a law of engines
+abbrev pub answer_text : AnswerFault → List ℕ
+answer_text (answer_fault.LoadBelowTorque n) = codes "load below torque in record " ++ decimal n
+answer_text (answer_fault.TorqueWhileOff n) = codes "torque with the stages off in record " ++ decimal n
+
+-- what is said of an image's fault
+abbrev pub image_text : ImageFault → List ℕ
+image_text image_fault.Memory = codes "no memory"
+image_text (image_fault.Line line) = codes "line " ++ decimal line
+image_text image_fault.Long = codes "more than 1024 lines"
+
+-- what is said of a source's fault
+abbrev pub source_text : AsmFault → List ℕ
+source_text asm_fault.Memory = codes "no memory"
+source_text (asm_fault.Line line) = codes "line " ++ decimal line
+source_text (asm_fault.Label line) = codes "label in line " ++ decimal line
+source_text asm_fault.Long = codes "more than 1024 words"
+
+-- what is said of a campaign's fault
+abbrev pub campaign_text : CampaignFault → List ℕ
+campaign_text campaign_fault.Memory = codes "no memory"
+campaign_text campaign_fault.Text = codes "not TOML"
+campaign_text (campaign_fault.Key n key) = codes "run " ++ decimal n ++ codes " key " ++ run_key_text key
+campaign_text (campaign_fault.TwoFaults n) = codes "run " ++ decimal n ++ codes " has two faults"
+campaign_text (campaign_fault.Name n) = codes "run " ++ decimal n ++ codes " repeats a name"
+campaign_text campaign_fault.Many = codes "more than 1000 runs"
+campaign_text (campaign_fault.Ticks n) = codes "run " ++ decimal n ++ codes " passes 1000000 ticks"
+
+-- the line that says this, for a file of this name
+abbrev pub line_said : Says → List ℕ → List ℕ
+line_said (says.Words words) file = line_of file words.now
+line_said (says.Number before n) file = line_of file (before.now ++ decimal n)
+line_said (says.Between before n behind) file = line_of file (before.now ++ decimal n ++ behind.now)
+line_said (says.Key before key) file = line_of file (before.now ++ key.now)
+line_said (says.RunKey n key) file = line_of file (codes "run " ++ decimal n ++ codes " key " ++ key.now)
+line_said (says.Alone words) file = words.now ++ codes "\n"
+
+-- the line that notes a refusal, for a file of this name
+abbrev pub refusal_note : Refusal → List ℕ → List ℕ
+refusal_note (refusal.Size _) file = line_of file (codes "longer than 4194304 bytes")
+refusal_note (refusal.Calibration fault) file = line_of file (calibration_text fault)
+refusal_note (refusal.Check fault) file = line_of file (trace_text fault)
+refusal_note (refusal.Campaign fault) file = line_of file (campaign_text fault)
+refusal_note (refusal.Trace _ fault) file = line_of file (trace_text fault)
+refusal_note (refusal.Image _ fault) file = line_of file (image_text fault)
+refusal_note refusal.NoRun file = codes "no such run\n"
+refusal_note (refusal.Source fault) file = line_of file (source_text fault)
+refusal_note (refusal.Answer fault) file = line_of file (answer_text fault)
+refusal_note refusal.Grid file = codes "grid too large\n"
+
+-- the line that notes an outcome, for a file of this name
+abbrev pub note_of : Outcome → List ℕ → List ℕ
+note_of outcome.Done file = []
+note_of outcome.Usage file = codes "not a command of egasim\n"
+note_of (outcome.ReadFault _) file = codes "cannot read " ++ (shown_name file ++ codes "\n")
+note_of (outcome.Refused r) file = refusal_note r file
+note_of outcome.WriteFault file = codes "cannot write\n"
+note_of outcome.Memory file = codes "no memory\n"
+
+-- ---- how it is put ----
+
+-- the line or a prefix of it was put, and the whole line where the output is sure and counts no fault in the
+-- call
+pub record PutsNote (notes : Change ShownSink) (line : List ℕ) : Type 0 where
+  pub prefix : AppendsPrefix notes.before notes.after line
+  pub whole : IsTrue notes.before.sure → ¬ Rose notes.before.faults notes.after.faults →
+      Appends notes.before notes.after line

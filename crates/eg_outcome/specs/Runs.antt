@@ -1,0 +1,172 @@
+-- What `run`, `table`, `margins`, `record`, `sweep` and `couple` read: a campaign, and the files of its runs.
+use Rattle.std.specs.Prelude.{◌≡◌, ℕ, Bool, true, false, map, ◌+◌, ◌-◌, length, List, [], ◌∷◌, Option, Some, None, option_map, Result, Ok, Err, IsSome, IsTrue, IfErr, slice_get, bytes_eq, if◌then◌else◌}
+use Rattle.eg_base.specs.Outside.{ShownStore, IsMissing}
+use Rattle.eg_num.specs.Drive.{DriveRow}
+use Rattle.eg_plan.specs.declared.run.RunPlan.{RunPlan}
+use Rattle.eg_plan.specs.declared.run_input.RunInput.{RunInput}
+use Rattle.eg_outcome.specs.Changes.{Change, MeetsNoFault}
+use Rattle.eg_outcome.specs.Files.{AreRead}
+use Rattle.eg_outcome.specs.Outcomes.{Then, TellsNoMemory}
+use Rattle.eg_outcome.specs.Roles.{role_in}
+use Rattle.eg_outcome.specs.Images.{image_file}
+use Rattle.eg_outcome.specs.Reads.{FileComes, ReadComes, Finds, Accepts, KeepsFiles}
+use Rattle.eg_outcome.specs.declared.outcome.Outcome.{Outcome}
+use Rattle.eg_outcome.specs.declared.outcome.Outcome.TheVariants as outcome
+use Rattle.eg_outcome.specs.declared.outcome.Refusal.TheVariants as refusal
+use Rattle.eg_outcome.specs.declared.outcome.Role.{Role}
+use Rattle.eg_outcome.specs.declared.outcome.Role.TheVariants as role
+use Rattle.eg_table.specs.Grid.{is_too_large}
+use Rattle.eg_outcome.specs.Campaigns.{campaign_file, trace_file}
+use Rattle.eg_outcome.specs.declared.end.End.{End}
+use Rattle.eg_plan.specs.Playable.{IsPlayable}
+use Rattle.eg_outcome.specs.Inputs.{ImageComes, InputComes, InputsCome, FindsInput, AcceptsInput, outcomes}
+
+-- ---- which runs are played ----
+
+-- the campaign is read, and then the files of all its runs, in their order
+abbrev pub RunsCome : (campaign : List ℕ) → Change ShownStore → Result (List RunInput) Outcome → Type 0
+RunsCome campaign store come = (plans : Result (List RunPlan) Outcome)
+    × FileComes role.Campaign campaign_file campaign store plans
+    × Then (λ found made. InputsCome store 1 0 found made) plans come
+
+-- the first run of this name, with its number, where n is the number of the first run of the list
+abbrev pub run_named : List ℕ → ℕ → List RunPlan → Option (ℕ × RunPlan)
+run_named name n [] = None
+run_named name n (plan ∷ plans) =
+    if bytes_eq plan.name name then Some (n, plan) else run_named name (n + 1) plans
+
+-- the campaign is read, and has this as its first run of that name
+abbrev pub FindsNamed : (campaign name : List ℕ) → ShownStore → ℕ × RunPlan → Type 0
+FindsNamed campaign name store found = (plans : List RunPlan)
+    × ReadComes campaign_file campaign store (Ok plans) × (run_named name 1 plans ≡ Some found)
+
+-- there is no run of that name, or its files are read; no count of ticks is refused here
+abbrev pub FoundComes : Option (ℕ × RunPlan) → Change ShownStore → Result RunInput Outcome → Type 0
+FoundComes None store come = (come ≡ Err (outcome.Refused refusal.NoRun)) × MeetsNoFault store
+FoundComes (Some found) store come = InputComes (λ count. None) store found.0 found.1 come
+
+-- the campaign is read, and then the files of its run of that name
+abbrev pub NamedComes : (campaign name : List ℕ) → Change ShownStore → Result RunInput Outcome → Type 0
+NamedComes campaign name store come = (plans : Result (List RunPlan) Outcome)
+    × FileComes role.Campaign campaign_file campaign store plans
+    × Then (λ found made. FoundComes (run_named name 1 found) store made) plans come
+
+-- a grid is refused where it is too large
+abbrev pub GridComes : (is_too_large : Bool) → Change ShownStore → RunInput → Result RunInput Outcome → Type 0
+GridComes true store input come = (come ≡ Err (outcome.Refused refusal.Grid)) × MeetsNoFault store
+GridComes false store input come = come ≡ Ok input
+
+-- the same, and then a grid over the run's drive, with a fault of each class at each `step`th tick
+abbrev pub SweptComes :
+    (campaign name : List ℕ) → (step : ℕ) → Change ShownStore → Result RunInput Outcome → Type 0
+SweptComes campaign name step store come = (input : Result RunInput Outcome)
+    × NamedComes campaign name store input
+    × Then (λ one made. GridComes (is_too_large (length one.drive) step) store one made) input come
+
+-- ---- the run of a sweep ----
+
+-- a run that may be played, over whose drive the grid isn't too large
+pub record IsSweepable (step : ℕ) (input : RunInput) : Type 0 where
+  pub playable : IsPlayable input
+  pub grid : is_too_large (length input.drive) step ≡ false
+
+-- this drive row, but without a reset of the unit
+abbrev pub without_reset : DriveRow → DriveRow
+without_reset row = record row { reset = false }
+
+-- the same input without the resets of its trace
+abbrev pub without_resets : RunInput → RunInput
+without_resets input = record input { drive = map without_reset input.drive }
+
+-- ---- a run whose drive and engine come from elsewhere ----
+
+-- there is no run of that name, or its image is read, and no trace
+abbrev pub FoundUndriven : Option (ℕ × RunPlan) → Change ShownStore → Result RunInput Outcome → Type 0
+FoundUndriven None store come = (come ≡ Err (outcome.Refused refusal.NoRun)) × MeetsNoFault store
+FoundUndriven (Some found) store come = ImageComes store found.0 found.1 [] come
+
+-- the campaign is read, and then the image of its run of that name
+abbrev pub UndrivenComes : (campaign name : List ℕ) → Change ShownStore → Result RunInput Outcome → Type 0
+UndrivenComes campaign name store come = (plans : Result (List RunPlan) Outcome)
+    × FileComes role.Campaign campaign_file campaign store plans
+    × Then (λ found made. FoundUndriven (run_named name 1 found) store made) plans come
+
+-- ---- when the work is done ----
+
+-- the run is there, its files are found, and whatever reads of them may give is accepted
+abbrev pub AcceptsNamed : Change ShownStore → Option (ℕ × RunPlan) → Type 0
+AcceptsNamed store None = ⊥
+AcceptsNamed store (Some found) =
+    FindsInput store found.1 × AcceptsInput (λ count. None) store.before found.0 found.1
+
+-- the run is there, its image is found, and whatever a read of it may give is accepted
+abbrev pub AcceptsUndriven : Change ShownStore → Option (ℕ × RunPlan) → Type 0
+AcceptsUndriven store None = ⊥
+AcceptsUndriven store (Some found) =
+    Finds found.1.image store × Accepts (image_file found.0) found.1.image store.before
+
+-- whatever the trace of this run may say, the grid over it isn't too large
+abbrev pub AcceptsGrid : (step : ℕ) → ShownStore → Option (ℕ × RunPlan) → Type 0
+AcceptsGrid step store None = ⊥
+AcceptsGrid step store (Some found) = (drive : List DriveRow)
+    → ReadComes (trace_file found.0) found.1.trace store (Ok drive) → is_too_large (length drive) step ≡ false
+
+-- ---- the name of a file of a run ----
+
+-- the name that a run of the campaign gives to the file of this role, if the role is of a run
+abbrev pub name_in : List RunPlan → Role → Option (List ℕ)
+name_in plans (role.Trace n) = option_map (λ plan. plan.trace) (slice_get plans (n - 1))
+name_in plans (role.Image n) = option_map (λ plan. plan.image) (slice_get plans (n - 1))
+name_in plans _ = None
+
+-- the name that the plan of a run gives to the file of this role
+abbrev pub name_by : RunPlan → Option Role → Option (List ℕ)
+name_by plan (Some (role.Trace n)) = Some plan.trace
+name_by plan (Some (role.Image n)) = Some plan.image
+name_by plan _ = None
+
+-- the name that a run of the campaign gives to the file of this role, if there is a role and it is of a run
+abbrev pub name_for : List RunPlan → Option Role → Option (List ℕ)
+name_for plans (Some file) = name_in plans file
+name_for plans None = None
+
+-- where the role is of a run, it is of run n
+abbrev pub IsOf : ℕ → Option Role → Type 0
+IsOf n (Some (role.Trace run)) = run ≡ n
+IsOf n (Some (role.Image run)) = run ≡ n
+IsOf n _ = Unit {0}
+
+-- the role isn't of a run
+abbrev pub IsNotOfRun : Option Role → Type 0
+IsNotOfRun (Some (role.Trace n)) = ⊥
+IsNotOfRun (Some (role.Image n)) = ⊥
+IsNotOfRun _ = Unit {0}
+
+-- there is a name exactly if there is a role and it is of a run
+abbrev pub IsNamedIfOfRun : Option Role → Option (List ℕ) → Type 0
+IsNamedIfOfRun (Some (role.Trace n)) name = IsSome name
+IsNamedIfOfRun (Some (role.Image n)) name = IsSome name
+IsNamedIfOfRun _ name = name ≡ None
+
+-- the campaign that was read gives this name to the file of this role
+abbrev pub IsNameIn : List ℕ → ShownStore → Role → Option (List ℕ) → Type 0
+IsNameIn campaign store file name = (bytes : List ℕ) × AreRead store campaign bytes
+    × (plans : List RunPlan) × (campaign_file bytes ≡ Ok plans) × IsSome name × (name ≡ name_in plans file)
+
+-- Where an outcome speaks of the trace or the image of a run, the name is the one that the campaign gives;
+-- otherwise there is none.
+abbrev pub NamesFile : List ℕ → ShownStore → Option Role → Option (List ℕ) → Type 0
+NamesFile campaign store (Some (role.Trace n)) name = IsNameIn campaign store (role.Trace n) name
+NamesFile campaign store (Some (role.Image n)) name = IsNameIn campaign store (role.Image n) name
+NamesFile campaign store _ name = name ≡ None
+
+-- What holds of whatever comes of a campaign and of files of its runs: an end that speaks of a file of a run
+-- has its name; over a sure store a missing campaign is told; no refusal tells that memory ran out; and no
+-- file changes.
+pub record ReadsCampaign {X : Type 0} (campaign : List ℕ) (store : Change ShownStore) (come : Result X End) :
+    Type 0 where
+  pub named : IfErr come (λ end. NamesFile campaign store.before (role_in end.outcome) end.file)
+  pub missing : IsTrue store.before.sure → IsMissing store.before.files campaign
+      → outcomes come ≡ Err (outcome.ReadFault role.Campaign)
+  pub no_memory : IfErr come (λ end. TellsNoMemory end.outcome)
+  pub keeps : KeepsFiles store come
