@@ -96,7 +96,7 @@ def lapse_point(played, asked):
 
 def lapse_stretch(played):
     """How many ticks in a row an excess may last under lapses; None if no bound holds, or none is known
-    (docs/CALIBRATING.md, "What is proved")."""
+    (docs/CONCEPT.md, "Lapses")."""
     limits = played.limits
     if played.has_ramp:
         return None
