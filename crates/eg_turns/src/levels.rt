@@ -174,7 +174,7 @@ pub(crate) fn run_levels<M: Guarded + Drop>(
     if !level1_runs(fault, task.tick) {
         return Ok(stopped(task));
     }
-    run_faulty_turns(level2, fault, task, level1, memory)
+    run_faulty_turns(level2, fault, *task, level1, memory)
 }
 
 /// What a tick at which neither level 1 nor level 2 runs orders, answers and finds.
@@ -188,23 +188,24 @@ fn stopped(task: &Task) -> Step
     Step::quiet()
 }
 
-/// The turns of a tick at which a fault acts on them. They aren't compiled into each caller of a tick.
+/// The turns of a tick at which a fault acts on them. They aren't compiled into each caller of a tick. The task
+/// is handed over by value, so that at any other tick its parts needn't stand in one place.
 #[inline(never)]
 fn run_faulty_turns<M: Guarded + Drop>(
     level2: &Level2,
     fault: Option<&Fault>,
-    task: &Task,
+    task: Task,
     level1: &mut Level1,
     memory: &mut M,
 ) -> Result<Step, NoMemory>
     requires fault { IsNoneOrValid (option_copied fault) }
-    requires level1 { (effects (option_copied fault) task.now.tick).level1 ≡ true }
-    requires prepared { IsPrepared level2.now (asked_of (M.shows memory.old).words) task.now.prepared }
+    requires level1 { (effects (option_copied fault) task.tick).level1 ≡ true }
+    requires prepared { IsPrepared level2.now (asked_of (M.shows memory.old).words) task.prepared }
     requires ready { IsReady level2.now.rules level1.old.program (M.shows memory.old).words }
-    ensures { RunLevels level2.now (effects (option_copied fault.entry) task.now.tick) task.now
+    ensures { RunLevels level2.now (effects (option_copied fault.entry) task.tick) task
         level1.old level1.new (M.shows memory.old) (M.shows memory.new) result }
 {
-    run_turns::<M, true>(level2, fault, task, level1, memory)
+    run_turns::<M, true>(level2, fault, &task, level1, memory)
 }
 
 /// `run_levels` in one of its two forms: compiled with what is asked of a fault at each turn, or without. The
