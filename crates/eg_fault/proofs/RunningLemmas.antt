@@ -5,7 +5,7 @@ use Rattle.std.specs.Prelude.{◌==◌, not, if◌then◌else◌, Option, Some, 
 use Rattle.eg_answer.specs.Modules.{AllRun, NoneRuns, OthersRun}
 use Rattle.eg_fault.specs.Effects.{Effects, no_effects}
 use Rattle.eg_fault.specs.Faults.{effects_of, effects, is_left_out}
-use Rattle.eg_fault.specs.Running.{LeavesOut, RunsWhole, RunningLaw, RunAlike, may_change_levels, changes_levels, all_run, runs_of, IsRunning}
+use Rattle.eg_fault.specs.Running.{LeavesOut, RunsWhole, RunningLaw, RunAlike, ElseAlike, may_change_levels, changes_levels, all_run, runs_of, IsRunning}
 use Rattle.eg_fault.specs.declared.class.Class.{Class}
 use Rattle.eg_fault.specs.declared.class.Class.TheVariants.{Skip, Disturb, Flip, Halt, Lapse}
 use Rattle.eg_fault.specs.declared.class.Fault.{Fault}
@@ -105,6 +105,26 @@ spared-now _ k is = record { level1 = refl; ran = refl; disturbance = refl; flip
 pub same-now : (x : Effects) (tick : ℕ) → RunAlike no_effects x → RunAlike (effects None tick) x
 unfolding effects
 same-now x tick alike = alike
+
+-- ---- all else ----
+
+pub same-else : (x : Effects) → ElseAlike x x
+same-else x = record { track = refl; raise = refl; held_plate = refl; send = refl; wild = refl; opens = refl; conducts = refl }
+
+-- a class that may change how they run changes nothing else
+pub spared-else : (class : Class) (k : ℕ) → may_change_levels class ≡ true → ElseAlike no_effects (effects_of class k)
+unfolding effects_of no_effects may_change_levels
+spared-else (Skip one) k is = record { track = refl; raise = refl; held_plate = refl; send = refl; wild = refl; opens = refl; conducts = refl }
+spared-else (Disturb one mask) k is = record { track = refl; raise = refl; held_plate = refl; send = refl; wild = refl; opens = refl; conducts = refl }
+spared-else (Flip word mask) k is = record { track = refl; raise = refl; held_plate = refl; send = refl; wild = refl; opens = refl; conducts = refl }
+spared-else Halt k is = record { track = refl; raise = refl; held_plate = refl; send = refl; wild = refl; opens = refl; conducts = refl }
+spared-else (Lapse after every) k is = record { track = refl; raise = refl; held_plate = refl; send = refl; wild = refl; opens = refl; conducts = refl }
+spared-else _ k is = absurd (let clash : false ≡ true = is in cc)
+
+-- so all else is as without a fault where this is what is out of order
+pub else-now : (x : Effects) (tick : ℕ) → ElseAlike no_effects x → ElseAlike (effects None tick) x
+unfolding effects
+else-now x tick alike = alike
 
 -- ---- where level 1 doesn't run ----
 

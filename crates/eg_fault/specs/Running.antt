@@ -32,6 +32,17 @@ pub record RunAlike (x y : Effects) : Type 0 where
   pub disturbance : x.disturbance ≡ y.disturbance
   pub flip : x.flip ≡ y.flip
 
+-- All else is alike: what is read, where the plate is held, when answers are sent, what the monitoring module
+-- asks and orders, and which paths conduct.
+pub record ElseAlike (x y : Effects) : Type 0 where
+  pub track : x.track ≡ y.track
+  pub raise : x.raise ≡ y.raise
+  pub held_plate : x.held_plate ≡ y.held_plate
+  pub send : x.send ≡ y.send
+  pub wild : x.wild ≡ y.wild
+  pub opens : x.opens ≡ y.opens
+  pub conducts : x.conducts ≡ y.conducts
+
 -- the classes under which level 1 and level 2 may run otherwise than without a fault
 unfoldable pub may_change_levels : Class → Bool
 may_change_levels (Skip index) = true

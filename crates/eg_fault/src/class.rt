@@ -4,7 +4,7 @@ ghost use Rattle.std.specs.List.Sorted.{IsStrictlyIncreasing};
 ghost use Rattle.std.specs.Option.{option_copied, option_map_or};
 ghost use Rattle.eg_fault.specs.Faults;
 ghost use Rattle.eg_fault.specs.Faults.{AreFew, IsValid, IsValidClass, IsOffset, effects_of};
-ghost use Rattle.eg_fault.specs.Running.{changes_levels, runs_of};
+ghost use Rattle.eg_fault.specs.Running.{may_change_levels, changes_levels, runs_of};
 
 use crate::{ModuleRuns, Opens, PATH_1, PATH_2, Script};
 use eg_answer::{MODULES, PAIRS, PEDAL, STORED_WORDS};
@@ -246,6 +246,21 @@ impl Class {
         ensures { result ≡ (effects_of self.now after).level1 }
     {
         !matches!(self, Class::Halt)
+    }
+
+    /// Whether the class may change how level 1 and level 2 run. Then it changes nothing else.
+    #[tactic(auto, unfolding(crate::specs::Running::may_change_levels))]
+    pub(crate) fn may_change_levels(&self) -> bool
+        ensures { result ≡ may_change_levels self.now }
+    {
+        matches!(
+            self,
+            Class::Skip { .. }
+                | Class::Disturb { .. }
+                | Class::Flip { .. }
+                | Class::Halt
+                | Class::Lapse { .. }
+        )
     }
 
     /// Whether the class changes how level 1 and level 2 run.

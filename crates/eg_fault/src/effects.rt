@@ -5,7 +5,7 @@ ghost use Rattle.eg_answer.specs.Periods.{place_of};
 ghost use Rattle.eg_fault.specs.Effects;
 ghost use Rattle.eg_fault.specs.Effects.{no_effects, readings_under, contacts_under, sends_at};
 ghost use Rattle.eg_fault.specs.Faults.{effects, effects_of};
-ghost use Rattle.eg_fault.specs.Running.{RunAlike, IsRunning};
+ghost use Rattle.eg_fault.specs.Running.{RunAlike, ElseAlike, IsRunning};
 
 use crate::{Class, Fault, ModuleRuns};
 use eg_answer::Times;
@@ -104,6 +104,18 @@ pub fn fault_of_levels(fault: Option<&Fault>, tick: u32) -> Option<&Fault>
 {
     let (class, after) = acting(fault, tick)?;
     if !class.changes_levels(after) {
+        return None;
+    }
+    fault
+}
+
+/// The fault, where it may change at a tick more than how level 1 and level 2 run, else None: then sensors,
+/// plate, questions, answers and paths are as without a fault (docs/CONCEPT.md, "Faults").
+pub fn fault_beyond_levels(fault: Option<&Fault>, tick: u32) -> Option<&Fault>
+    ensures { ElseAlike (effects (option_copied result) tick) (effects (option_copied fault.entry) tick) }
+{
+    let (class, _after) = acting(fault, tick)?;
+    if class.may_change_levels() {
         return None;
     }
     fault

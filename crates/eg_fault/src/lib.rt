@@ -14,8 +14,8 @@ mod script;
 pub use class::{Class, Fault};
 pub use class_name::{CLASSES, ClassName, LISTED};
 pub use effects::{
-    conducts, fault_of_levels, faulty_contacts, faulty_readings, flip, held, level1_runs,
-    module_runs, sends, wild,
+    conducts, fault_beyond_levels, fault_of_levels, faulty_contacts, faulty_readings, flip, held,
+    level1_runs, module_runs, sends, wild,
 };
 pub use key::FaultKey;
 pub use laws::{

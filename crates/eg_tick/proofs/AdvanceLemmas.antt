@@ -399,10 +399,10 @@ module _ (old new : Kept) (drive : DriveRow) (budgets : List ℕ) (made : Level2
 
   comes : ComesNext kind-now s old.fault old.ticks old.span.local done.answer old.span.monitor x span-now
   comes = record {
-    same_fault = refl;
+    wild = ap (λ y. y.wild) effects-now;
+    opens = ap (λ y. y.opens) effects-now;
     begin = begin s e h old enter;
     follows = follows-now s e h old enter;
-    count = counted s e h old enter;
     number_in_span = sym enter.span.local;
     marked = steps.mark;
     holds = enter.span.monitor;

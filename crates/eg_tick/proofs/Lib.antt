@@ -1,5 +1,6 @@
 pub mod TickLemmas
 pub mod StartLemmas
+pub mod ElseLemmas
 pub mod WorkLemmas
 pub mod StandsLemmas
 pub mod AdvanceLemmas

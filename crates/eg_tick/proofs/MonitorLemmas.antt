@@ -18,7 +18,7 @@ use Rattle.eg_answer.specs.declared.marks.AnswerMark.TheVariants.{Absent, Good, 
 use Rattle.eg_answer.specs.declared.marks.Verdict.{Verdict}
 use Rattle.eg_module.specs.Monitoring.{MonitorParts, HasGiven}
 use Rattle.eg_module.proofs.VerdictLemmas.{period_of-other}
-use Rattle.eg_fault.specs.Effects.{Effects, asked_at}
+use Rattle.eg_fault.specs.Effects.{Effects, asked_at, asked_in}
 use Rattle.eg_fault.specs.Faults.{effects}
 use Rattle.eg_fault.specs.declared.class.Fault.{Fault}
 use Rattle.eg_fault.proofs.ClassLemmas.{wild_stays_wild}
@@ -241,9 +241,9 @@ none-more verdicts = refl
 -- ---- a tick ----
 
 -- what is known of a tick's verdict
-pub record Hears (x : Effects) (tick : ℕ) (answer : Option ℕ) (before now : MonitorParts) (verdict : Option Verdict) : Type 0 where
-  pub wild : OnSome x.wild (IsDeaf before now verdict)
-  pub orderly : x.wild ≡ None → Takes tick answer before now verdict
+pub record Hears (asks : Option ℕ) (tick : ℕ) (answer : Option ℕ) (before now : MonitorParts) (verdict : Option Verdict) : Type 0 where
+  pub wild : OnSome asks (IsDeaf before now verdict)
+  pub orderly : asks ≡ None → Takes tick answer before now verdict
 
 module _ (kind : SpanKind) (s : Setting) (begin : ℕ) (x : Tick) (h : List Tick) (follows : Follows s.fault begin (x ∷ h)) (answer : Option ℕ) (before now : MonitorParts)
     (verdict : Option Verdict) (holds : HoldsMonitor kind s before h) where
@@ -315,44 +315,41 @@ module _ (kind : SpanKind) (s : Setting) (begin : ℕ) (x : Tick) (h : List Tick
         deaf-given v verdicts none given = subst (HasGiven now) (sym (ap (λ v. with_verdict v verdicts) none ∙ none-more verdicts)) given
 
   module _ (marked_so : mark_of (number_expected s x.effects (length h)) answer ≡ (moment_after kind s x h).mark)
-      (hears : Hears x.effects (length h) answer before now verdict) where
+      (hears : Hears x.effects.wild (length h) answer before now verdict) where
     either : (w : Option ℕ) → x.effects.wild ≡ w → (verdict ≡ (moment_after kind s x h).verdict) × HoldsMonitor kind s now (x ∷ h)
     either None is = (tame-verdict marked_so is (hears.orderly is), tame-holds marked_so is (hears.orderly is))
     either (Some asks) is = let deaf = subst (λ w. OnSome w (IsDeaf before now verdict)) is hears.wild in (wild-verdict asks is deaf, wild-holds asks is deaf)
 
 -- ---- what is made of it ----
 
--- the number that is expected, by what is out of order, the times and the questions
-number_of : Effects → TimeParts → List Question → ℕ → ℕ
-number_of x times questions local = answer_number (question_at questions (asked_at x times (length questions) local)).answer
+-- the number that is expected, by what a wild monitoring module asks, the times and the questions
+number_of : Option ℕ → TimeParts → List Question → ℕ → ℕ
+number_of asks times questions local = answer_number (question_at questions (asked_in asks times (length questions) local)).answer
 
 module _ (kind : SpanKind) (s : Setting) (x : Tick) (h : List Tick) (fault : Option Fault) (tick local : ℕ) (answer : Option ℕ) (before : MonitorParts)
     (comes : ComesNext kind s fault tick local answer before x h) where
-  effects-is : effects fault tick ≡ x.effects
-  unfolding Follows
-  effects-is = ap₂ effects (sym comes.same_fault) (sym comes.count) ∙ sym comes.follows.0
-
-  pub judged : (now : MonitorParts) (verdict : Option Verdict) → Hears (effects fault tick) local answer before now verdict →
+  pub judged : (now : MonitorParts) (verdict : Option Verdict) → Hears (effects fault tick).wild local answer before now verdict →
       (verdict ≡ (moment_after kind s x h).verdict) × HoldsMonitor kind s now (x ∷ h)
   judged now verdict hears =
       either kind s comes.begin x h comes.follows answer before now verdict comes.holds comes.marked
-      (subst (λ t. Hears x.effects t answer before now verdict) (sym comes.number_in_span)
-      (subst (λ y. Hears y local answer before now verdict) effects-is hears)) _ refl
+      (subst (λ t. Hears x.effects.wild t answer before now verdict) (sym comes.number_in_span)
+      (subst (λ asks. Hears asks local answer before now verdict) comes.wild hears)) _ refl
 
   pub judged-opens : (opens : Bool) → opens ≡ (effects fault tick).opens → opens ≡ (moment_after kind s x h).opens
-  judged-opens opens is = is ∙ ap (λ (y : Effects). y.opens) effects-is ∙ sym ((fields_in kind s x.effects x.entry (moments_in kind s h)).opens)
+  judged-opens opens is = is ∙ comes.opens ∙ sym ((fields_in kind s x.effects x.entry (moments_in kind s h)).opens)
 
-  number-is : (questions : List Question) → before.questions ≡ questions → number_of (effects fault tick) before.times questions local ≡ number_expected s x.effects (length h)
-  unfolding number_of number_expected
+  number-is : (questions : List Question) → before.questions ≡ questions
+      → number_of (effects fault tick).wild before.times questions local ≡ number_expected s x.effects (length h)
+  unfolding number_of number_expected asked_at
   number-is questions same =
-      ap (λ questions. number_of (effects fault tick) before.times questions local) (sym same ∙ comes.holds.questions)
-      ∙ ap (λ times. number_of (effects fault tick) times s.cal.questions local) comes.holds.times
-      ∙ ap₂ (λ y t. number_of y s.cal.times s.cal.questions t) effects-is (sym comes.number_in_span)
+      ap (λ questions. number_of (effects fault tick).wild before.times questions local) (sym same ∙ comes.holds.questions)
+      ∙ ap (λ times. number_of (effects fault tick).wild times s.cal.questions local) comes.holds.times
+      ∙ ap₂ (λ asks t. number_of asks s.cal.times s.cal.questions t) comes.wild (sym comes.number_in_span)
 
   pub judged-mark : (mark : AnswerMark) (number asked : ℕ) (questions : List Question) → before.questions ≡ questions → mark ≡ mark_of number answer →
       number ≡ answer_number (question_at questions asked).answer → asked ≡ asked_at (effects fault tick) before.times (length questions) local →
       mark ≡ (moment_after kind s x h).mark
-  unfolding number_of
+  unfolding number_of asked_at
   judged-mark mark number asked questions same is number_so asked_so =
       is
       ∙ ap (λ k. mark_of k answer) (number_so ∙ ap (λ i. answer_number (question_at questions i).answer) asked_so ∙ number-is questions same)

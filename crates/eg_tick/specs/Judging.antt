@@ -5,6 +5,7 @@ use Rattle.eg_answer.specs.Periods.{HeardAnswer, period_of, is_last_tick, verdic
 use Rattle.eg_answer.specs.declared.marks.Verdict.{Verdict}
 use Rattle.eg_module.specs.Monitoring.{MonitorParts, HasGiven, expected_at}
 use Rattle.eg_fault.specs.declared.class.Fault.{Fault}
+use Rattle.eg_fault.specs.Faults.{effects}
 use Rattle.eg_model.specs.History.{Setting, Tick, SpanKind, Moment}
 use Rattle.eg_model.specs.Premises.{Follows}
 use Rattle.eg_agree.specs.Replies.{moment_after, number_expected, mark_of}
@@ -40,15 +41,15 @@ pub record IsDeaf (before now : MonitorParts) (verdict : Option Verdict) : Type 
 
 -- ---- a tick of a run ----
 
--- The setting has this fault. Tick x comes after h in a span of this kind, from tick `begin` of the run on,
--- and has these numbers in the run and in the span. The monitoring module is as the model says of h, and what
--- level 2 answers at the tick has the mark of the model.
+-- Tick x comes after h in a span of this kind, from tick `begin` of the run on, and has this number in the
+-- span. Under the fault the monitoring module is as wild at it as the tick says. The monitoring module is as
+-- the model says of h, and what level 2 answers at the tick has the mark of the model.
 pub record ComesNext (kind : SpanKind) (s : Setting) (fault : Option Fault) (tick local : ℕ)
     (answer : Option ℕ) (monitor : MonitorParts) (x : Tick) (h : List Tick) : Type 0 where
-  pub same_fault : s.fault ≡ fault
+  pub wild : (effects fault tick).wild ≡ x.effects.wild
+  pub opens : (effects fault tick).opens ≡ x.effects.opens
   pub begin : ℕ
   pub follows : Follows s.fault begin (x ∷ h)
-  pub count : begin + length h ≡ tick
   pub number_in_span : length h ≡ local
   pub marked : mark_of (number_expected s x.effects (length h)) answer
       ≡ (moment_after kind s x h).mark

@@ -22,7 +22,7 @@ use crate::row::{Beginning, demand, effective, look_up, row};
 use crate::span::{Span, enter};
 use crate::weighing::counters;
 use eg_base::NoMemory;
-use eg_fault::{Fault, held};
+use eg_fault::{Fault, fault_beyond_levels, held};
 use eg_guard::Guarded;
 use eg_host::Level1;
 use eg_level2::{Level2, Lookup};
@@ -202,6 +202,7 @@ impl<E: Engine + Drop, M: Guarded + Drop> Controller<E, M> {
         let (level1, memory) = (&mut self.level1, &mut self.memory);
         enter(&mut self.span, &self.level2, level1, memory, drive.reset())?;
         let (tick, local, fault) = (self.ticks, self.span.local, self.fault.as_ref());
+        let other = fault_beyond_levels(fault, tick);
         let (questions, times) = (self.calibration.questions(), self.calibration.times());
         let (rules, brake) = (self.calibration.rules(), self.calibration.brake());
         let effective = effective(drive, brake);
@@ -211,29 +212,28 @@ impl<E: Engine + Drop, M: Guarded + Drop> Controller<E, M> {
             drive: *drive,
             limit: ramped(rules.fall, self.span.limit, demand(&lookup, &effective)),
             span_tick: self.span.next_tick(self.test_ticks),
-            paths: Paths::at(fault, tick, &self.span),
+            paths: Paths::at(other, tick, &self.span),
         };
-        let held_plate = held(fault, tick);
+        let held_plate = held(other, tick);
         step_engine(&mut self.engine, &self.memory, begins.paths.on, held_plate);
-        let asked = question(&self.span.monitor, questions, fault, tick, local);
+        let asked = question(&self.span.monitor, questions, other, tick, local);
         let task = Task {
             tick,
             local: local as u16,
-            phase: self.span.phase(fault, tick, times, begins.span_tick.told),
+            phase: self.span.phase(other, tick, times, begins.span_tick.told),
             asked,
-            readings: readings(&self.engine, drive, brake, fault, tick),
+            readings: readings(&self.engine, drive, brake, other, tick),
             prepared: self.level2.prepared(asked, lookup),
             slices: *slices,
         };
         let (level1, memory) = (&mut self.level1, &mut self.memory);
         let step = work(&self.level2, fault, &task, level1, memory)?;
         let (monitor, answer) = (&mut self.span.monitor, step.answer);
-        let judged = judge(monitor, questions, fault, tick, local, asked, answer);
+        let judged = judge(monitor, questions, other, tick, local, asked, answer);
         self.span
             .note(begins.limit, step.open_path, judged, begins.passes());
         note_trap(&mut self.trap, &self.level1, tick);
-        self.ticks += 1;
-        (self.lost, self.lookup) = (false, lookup);
+        (self.ticks, self.lost, self.lookup) = (tick + 1, false, lookup);
         Ok(row(begins, &self.engine, &self.memory, step.found, judged))
     }
 

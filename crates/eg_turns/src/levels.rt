@@ -188,8 +188,8 @@ fn stopped(task: &Task) -> Step
     Step::quiet()
 }
 
-/// The turns of a tick at which a fault acts on them. They aren't compiled into each caller of a tick. The task
-/// is handed over by value, so that at any other tick its parts needn't stand in one place.
+/// The turns of a tick at which a fault acts on them. They aren't compiled into each caller of a tick. The
+/// task is handed over by value, so that at any other tick its parts needn't stand in one place.
 #[inline(never)]
 fn run_faulty_turns<M: Guarded + Drop>(
     level2: &Level2,

@@ -23,6 +23,7 @@ use Rattle.eg_tick.specs.Advancing.{effects_after, entry_of, world_before}
 use Rattle.eg_turns.specs.declared.working.Task.{Task}
 use Rattle.eg_tick.proofs.StandsLemmas.{Enters, entered, enters, row_by, next_stands}
 use Rattle.eg_tick.proofs.WorkLemmas.{works-served, works-step}
+use Rattle.eg_tick.proofs.ElseLemmas.{phase-else, asked-else, readings-else, comes-else}
 use Rattle.eg_tick.proofs.AdvanceLemmas.{of_setting, held-within, within, few-in, period-in, later-in, stepped, left_whole, ran_out, rests, Advance, settled, makes, row-told, step-told}
 use Rattle.eg_tick.proofs.controller.Controller.advance.Given.{Over}
 use Rattle.eg_tick.proofs.controller.Controller.advance.Goals as goal
@@ -46,7 +47,8 @@ next_tick-requires g c =
 pub step_engine-requires : goal.step_engine-requires
 step_engine-requires g c x is =
     held-within c.self.inside.fault c.self.inside.ticks x c.self.invariant.keeps.fault
-    (subst (λ f. (effects f c.self.inside.ticks).held_plate ≡ Some x) c.as_ref-fault.ensures.value (sym c.held-held_plate.ensures ∙ is))
+    (subst (λ f. (effects f c.self.inside.ticks).held_plate ≡ Some x) c.as_ref-fault.ensures.value
+    (sym (c.held-held_plate.ensures ∙ c.fault_beyond_levels-other.ensures.held_plate) ∙ is))
 
 pub overflow_cast-task : goal.overflow_cast-task
 overflow_cast-task g c =
@@ -57,12 +59,14 @@ overflow_cast-task g c =
 pub judge-judged-requires-clause-period : goal.judge-judged-requires-clause-period
 judge-judged-requires-clause-period g c tame =
     period-in _ (c.self.invariant.keeps.stands c.if-self.false) c.args.drive.now _ c.enter.new.span c.enter.new.level1.registers (g.M.Guarded.shows c.enter.new.memory)
-    c.reset.ensures.reset c.in_ok-enter.ensures.holds (subst (λ f. (effects f c.self.inside.ticks).wild ≡ None) c.as_ref-fault.ensures.value tame)
+    c.reset.ensures.reset c.in_ok-enter.ensures.holds (subst (λ f. (effects f c.self.inside.ticks).wild ≡ None) c.as_ref-fault.ensures.value
+    (sym c.fault_beyond_levels-other.ensures.wild ∙ tame))
 
 pub judge-judged-requires-clause-later : goal.judge-judged-requires-clause-later
 judge-judged-requires-clause-later g c tame =
     later-in _ (c.self.invariant.keeps.stands c.if-self.false) c.args.drive.now _ c.enter.new.span c.enter.new.level1.registers (g.M.Guarded.shows c.enter.new.memory)
-    c.reset.ensures.reset c.in_ok-enter.ensures.holds (subst (λ f. (effects f c.self.inside.ticks).wild ≡ None) c.as_ref-fault.ensures.value tame)
+    c.reset.ensures.reset c.in_ok-enter.ensures.holds (subst (λ f. (effects f c.self.inside.ticks).wild ≡ None) c.as_ref-fault.ensures.value
+    (sym c.fault_beyond_levels-other.ensures.wild ∙ tame))
 
 pub note-requires : goal.note-requires
 note-requires g c =
@@ -143,14 +147,15 @@ advance : (g : Over) (c : goal.After-row g) → Advance (old g c) (new g c) c.ar
 advance g c =
     let noted = c.note.ensures in
     let test_ticks = c.self.invariant.test_ticks_are in
+    let other = c.fault_beyond_levels-other.ensures in
     settled c.as_ref-fault.ensures.value
     (record {
       accepted = c.self.invariant.keeps.accepted;
       parts = c.self.invariant.parts;
       few = subst (λ v. v < 20000) (sym (ap (λ v. v.kept.ticks) c.self.view_is)) c.requires.fewer;
       is_drive = c.reset.ensures.drive;
-      path1 = c.at.ensures.path1;
-      path2 = c.at.ensures.path2;
+      path1 = c.at.ensures.path1 ∙ ap (λ conducts. conducts 1 c.enter.new.span.open1) other.conducts;
+      path2 = c.at.ensures.path2 ∙ ap (λ conducts. conducts 2 c.enter.new.span.open2) other.conducts;
       on = c.at.ensures.on;
       placed = c.next_tick.ensures.tests;
       fresh = c.next_tick.ensures.fresh;
@@ -159,17 +164,20 @@ advance g c =
       tick = refl;
       at = refl;
       phase = c.phase.ensures
+          ∙ phase-else _ _ _ _ c.enter.new.span.local other
           ∙ ap (λ times. phase_at (kind_of c.enter.new.span.tests) times (effects (option_copied c.as_ref-fault.result) c.self.inside.ticks)
           c.enter.new.span.local) c.times-times.ensures.times;
       asked = c.question-asked.ensures.number
+          ∙ asked-else _ _ _ _ c.enter.new.span.local other
           ∙ ap (λ questions. asked_at (effects (option_copied c.as_ref-fault.result) c.self.inside.ticks) c.enter.new.span.monitor.times
           (length questions) c.enter.new.span.local) c.questions-questions.ensures.questions;
-      readings = λ e. c.readings.ensures c.self.inside.calibration e (sym c.brake-brake.ensures.brake);
+      readings = λ e drive shown. c.readings.ensures c.self.inside.calibration e (sym c.brake-brake.ensures.brake) drive shown
+          ∙ readings-else c.self.inside.calibration _ _ e other;
       slices = refl;
       served = works-served (valid g c) c.in_ok-step.ensures;
       step = works-step (valid g c) c.in_ok-step.ensures;
-      holds = λ kind s x h comes. subst (λ (span : Span). HoldsMonitor kind s span.monitor (x ∷ h)) (sym noted) (c.judge-judged.ensures.holds kind s x h comes);
-      tells = c.judge-judged.ensures.tells;
+      holds = λ kind s x h comes. subst (λ (span : Span). HoldsMonitor kind s span.monitor (x ∷ h)) (sym noted) (c.judge-judged.ensures.holds kind s x h (comes-else other comes));
+      tells = λ kind s x h comes. c.judge-judged.ensures.tells kind s x h (comes-else other comes);
       cal = refl;
       fault = refl;
       count = refl;
@@ -234,7 +242,7 @@ steps g c =
     let words = (g.M.Guarded.shows c.enter.new.memory).words in
     let engine : c.self.inside.engine ≡ c.args.self.now.engine = ap (λ v. v.engine) c.self.view_is in
     let held : c.held-held_plate.result ≡ (effects c.self.inside.fault c.self.inside.ticks).held_plate =
-    c.held-held_plate.ensures ∙ ap (λ f. (effects f c.self.inside.ticks).held_plate) c.as_ref-fault.ensures.value in
+    c.held-held_plate.ensures ∙ c.fault_beyond_levels-other.ensures.held_plate ∙ ap (λ f. (effects f c.self.inside.ticks).held_plate) c.as_ref-fault.ensures.value in
     subst (λ e. g.E.Engine.steps e (slice_index words 2064) (slice_index words 2065) c.at.result.on (effects c.self.inside.fault c.self.inside.ticks).held_plate
     c.step_engine.new.engine) engine
     (subst (λ o. g.E.Engine.steps c.self.inside.engine (slice_index words 2064) (slice_index words 2065) c.at.result.on o c.step_engine.new.engine) held
@@ -283,12 +291,16 @@ returns-in_err-enter g c = ran_out c.from_residual.result c.from_residual.ensure
     c.in_err-enter.ensures.keeps (λ s h stands. inl (ap (λ v. v.engine) c.self.view_is)) (inl (c.in_err-enter.ensures.stopped ∙ ap (λ v. v.kept.span) c.self.view_is))
 
 pub returns-in_err-step : goal.returns-in_err-step
-returns-in_err-step g c = ran_out c.from_residual-in_err-step.result c.from_residual-in_err-step.ensures.0 c.self.view_is c.if-self.false c.self.invariant.keeps refl
+returns-in_err-step g c =
+    let other = c.fault_beyond_levels-other.ensures in
+    ran_out c.from_residual-in_err-step.result c.from_residual-in_err-step.ensures.0 c.self.view_is c.if-self.false c.self.invariant.keeps refl
     (keeps_then _ _ _ _ _ c.in_ok-enter.ensures.keeps c.in_err-step.ensures.keeps)
     (λ s h stands. stepped g.E.Engine.steps s c.args.drive.now c.args.slices.now _ h c.args.self.now.kept _ c.enter.new.span c.enter.new.level1.registers
     (g.M.Guarded.shows c.enter.new.memory) _ c.at.result _ c.held-held_plate.result _ _ c.step_engine.new.engine (ap (λ v. v.kept) c.self.view_is)
-    c.as_ref-fault.ensures.value (ap (λ v. v.engine) c.self.view_is) stands c.reset.ensures.reset c.in_ok-enter.ensures.holds c.at.ensures.path1 c.at.ensures.path2
-    c.at.ensures.on c.held-held_plate.ensures c.step_engine.ensures.steps)
+    c.as_ref-fault.ensures.value (ap (λ v. v.engine) c.self.view_is) stands c.reset.ensures.reset c.in_ok-enter.ensures.holds
+    (c.at.ensures.path1 ∙ ap (λ conducts. conducts 1 c.enter.new.span.open1) other.conducts)
+    (c.at.ensures.path2 ∙ ap (λ conducts. conducts 2 c.enter.new.span.open2) other.conducts)
+    c.at.ensures.on (c.held-held_plate.ensures ∙ other.held_plate) c.step_engine.ensures.steps)
     (inr (c.in_ok-enter.ensures.begun ∙ ap₂ span_from c.reset.ensures.reset (ap (λ v. v.kept.span) c.self.view_is)))
 
 pub returns-then-self : goal.returns-then-self
