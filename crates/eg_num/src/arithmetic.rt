@@ -12,9 +12,9 @@ pub fn lerp_floor(x0: u16, y0: u16, x1: u16, y1: u16, x: u16) -> u16
     requires to { x ≤ x1 }
     ensures { result ≡ lerp x0 y0 x1 y1 x }
 {
-    let low = u64::from(y0) * u64::from(x1 - x);
-    let high = u64::from(y1) * u64::from(x - x0);
-    ((low + high) / u64::from(x1 - x0)) as u16
+    let low = u32::from(y0) * u32::from(x1 - x);
+    let high = u32::from(y1) * u32::from(x - x0);
+    ((low + high) / u32::from(x1 - x0)) as u16
 }
 
 /// The value `now` moved toward `target` by at most `most`: the target itself where it lies within reach
