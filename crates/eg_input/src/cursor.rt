@@ -35,13 +35,13 @@ fn likely_first_number(text: &[u8], ending: u8, most: u16) -> Option<(u16, &[u8]
     if let Some(found) = number_ending_at(text, 3, ending, most) {
         return Some(found);
     }
+    if let Some(found) = number_ending_at(text, 1, ending, most) {
+        return Some(found);
+    }
     if let Some(found) = number_ending_at(text, 4, ending, most) {
         return Some(found);
     }
     if let Some(found) = number_ending_at(text, 2, ending, most) {
-        return Some(found);
-    }
-    if let Some(found) = number_ending_at(text, 1, ending, most) {
         return Some(found);
     }
     number_ending_at(text, 5, ending, most)

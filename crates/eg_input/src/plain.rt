@@ -11,6 +11,9 @@ use crate::reader::{MOST_ROWS, unless_empty};
 use crate::row::FileRow;
 use std::alloc::Global;
 
+/// How many bytes the shortest line has that writes a row: `0,0,0` and its line feed.
+const SHORTEST_LINE: usize = 6;
+
 /// The rows of a plain file. None says nothing of the file, which is to be read by csv then. It comes at
 /// least where the file isn't plain all through.
 pub(crate) fn read_plain<R: FileRow>(
@@ -33,7 +36,10 @@ fn read_lines<R: FileRow>(
     ensures { IfSome result (λ read.
         IsRead (rows_below 20000 (R.row_of width) (records_below bytes.now)) read) }
 {
-    let mut rows = Vec::new(alloc);
+    let most = (bytes.len() / SHORTEST_LINE).min(MOST_ROWS as usize);
+    let Ok(mut rows) = Vec::with_capacity(alloc, most) else {
+        return Some(Err(TraceFault::Memory));
+    };
     let mut rest = bytes;
     for count in 0..MOST_ROWS {
         if rest.is_empty() {
