@@ -1,5 +1,6 @@
 pub mod ReadLemmas
 pub mod DocumentLemmas
+pub mod CommentLemmas
 pub mod RangeLemmas
 pub mod HeldLemmas
 pub mod RisingLemmas

@@ -3,6 +3,7 @@
 #![tactic(auto)]
 
 mod arrays;
+mod comments;
 mod laws;
 mod names;
 mod places;

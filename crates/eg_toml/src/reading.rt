@@ -5,6 +5,7 @@ ghost use Rattle.eg_toml.specs.Documents.{document_of};
 ghost use Rattle.eg_toml.specs.Weight as spec;
 ghost use Rattle.eg_toml.specs.declared.reading.DocumentFault.TheVariants as fault;
 
+use crate::comments::below_comments;
 use crate::weight::is_too_heavy;
 use std::alloc::Global;
 use toml::Table;
@@ -29,6 +30,22 @@ pub fn read_document(alloc: Global, bytes: &[u8]) -> Result<Table, DocumentFault
     if is_too_heavy(bytes) {
         return Err(DocumentFault::Memory);
     }
+    if let Some(rest) = below_comments(bytes) {
+        match table_of(alloc, rest) {
+            Ok(table) => return Ok(table),
+            Err(DocumentFault::Memory) => return Err(DocumentFault::Memory),
+            // No law says that what is no document without its comments is none with them.
+            Err(DocumentFault::Text) => {}
+        }
+    }
+    table_of(alloc, bytes)
+}
+
+/// The table that bytes are, whatever they weigh.
+fn table_of(alloc: Global, bytes: &[u8]) -> Result<Table, DocumentFault>
+    ensures read { IfOk result (λ t. document_of bytes.now ≡ Some (table_view t)) }
+    ensures refused { result ≡ Err fault.Text → document_of bytes.now ≡ None }
+{
     match toml::table_from_slice(alloc, bytes) {
         Ok(table) => Ok(table),
         Err(error) if error.is_memory() => Err(DocumentFault::Memory),

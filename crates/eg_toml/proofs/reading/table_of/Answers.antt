@@ -1,6 +1,6 @@
 use Rattle.std.proofs.Common.{◌≡◌, false, true}
 use Rattle.eg_toml.proofs.DocumentLemmas.{document-some, document-none}
-use Rattle.eg_toml.proofs.reading.read_document.Goals as goal
+use Rattle.eg_toml.proofs.reading.table_of.Goals as goal
 
 pub returns-in-Ok-clause-read : goal.returns-in-Ok-clause-read
 returns-in-Ok-clause-read c = document-some _ _ c.in-Ok.ensures.ok.0 c.in-Ok.ensures.ok.1
