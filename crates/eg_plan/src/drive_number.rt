@@ -4,7 +4,8 @@ ghost use Rattle.eg_plan.specs.DriveNumbers.{mixed, row_number};
 
 use eg_num::Drive;
 
-/// A number and the next one, made one.
+/// A number and the next one, made one. Of many numbers in turn it makes the one by which equal drives, or
+/// alike runs, are found. Unlike ones may have it too, so what is found by it is compared.
 #[tactic(auto, unfolding(crate::specs::DriveNumbers::mixed))]
 pub fn mixed(number: u64, next: u64) -> u64
     ensures { result ≡ mixed number next }
@@ -12,7 +13,8 @@ pub fn mixed(number: u64, next: u64) -> u64
     (number.rotate_left(26) ^ next).wrapping_mul(6_364_136_223_846_793_005)
 }
 
-/// A number and the rows of a drive, made one.
+/// A number and the rows of a drive, made one, by `mixed`: what `Drives` finds an equal drive by, and a
+/// campaign the runs of a group.
 pub fn number_of_drive(number: u64, rows: &[Drive]) -> u64
     ensures { result ≡ fold (λ all row. mixed all (row_number row)) number rows.now }
 {

@@ -1,7 +1,9 @@
 //! Campaign files: a file is read as the plans of its runs, or refused by the first rule that it breaks.
 //!
 //! A plan is what a campaign says of a run. The files that it names are read, and the run is played, in the
-//! crates above: nothing here uses `eg_tick`.
+//! crates above: nothing here uses `eg_tick`. What those files hold stands beside the plan in a `RunInput`.
+//! Runs with equal drives own one copy: `Drives` finds it by a number of the rows, and `SharedItems` is what
+//! they own.
 #![tactic(auto)]
 
 mod contents;
