@@ -11,7 +11,7 @@ ghost use Rattle.eg_campaign.specs.declared.recording.RecordStop.TheVariants.{Me
 use crate::counting::count_none;
 use eg_base::{PutRefusal, Sink};
 use eg_plan::RunInput;
-use eg_record::{ROW_ROOM, Row, put_line, record_header};
+use eg_record::{ROW_ROOM, Row, put_row_line, record_header};
 use eg_tick::{BenchedEngine, Ticks, bench_controller, bench_row};
 use eg_values::Calibration;
 
@@ -59,7 +59,7 @@ fn put_row<K: Sink>(line: &mut [u8; ROW_ROOM], row: &Row, out: &mut K) -> Result
     ensures sure { IsTrue (K.shows out.old).sure → ¬ IsErrOf result Memory }
     ensures stays_sure { (K.shows out.new).sure ≡ (K.shows out.old).sure }
 {
-    let start = put_line(row, line);
+    let start = put_row_line(row, line);
     put_whole(&line[start..], out)
 }
 

@@ -24,15 +24,15 @@ pub fn put_note<N: Sink>(alloc: Global, outcome: &Outcome, file: &str, notes: &m
     }
     let file = file.as_bytes();
     let mut line = MemorySink::new(alloc);
-    let Ok(()) = put_line(outcome, file, &mut line) else {
-        let _ = put_line(outcome, file, notes);
+    let Ok(()) = put_note_line(outcome, file, &mut line) else {
+        let _ = put_note_line(outcome, file, notes);
         return;
     };
     let _ = notes.put(line.bytes());
 }
 
 /// Puts the line piece by piece.
-fn put_line<N: Sink>(outcome: &Outcome, file: &[u8], notes: &mut N) -> Result<(), PutRefusal>
+fn put_note_line<N: Sink>(outcome: &Outcome, file: &[u8], notes: &mut N) -> Result<(), PutRefusal>
     ensures { Puts (N.shows notes.old) (N.shows notes.new) (note_of outcome.now file.now) result }
 {
     match outcome {

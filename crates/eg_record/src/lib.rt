@@ -25,7 +25,9 @@ pub use margins::{Counters, MarginTally, Margins, greater_than};
 pub use numbers::{NUMBER_ROOM, put_numbers};
 pub use reactions::Reactions;
 pub use row::Row;
-pub use row_line::{FOUND_ROOM, ROW_ROOM, push_row, put_found, put_line, record_header, row_text};
+pub use row_line::{
+    FOUND_ROOM, ROW_ROOM, push_row, put_found, put_row_line, record_header, row_text,
+};
 pub use run_facts::RunFacts;
 pub use summary::{Summary, summarize};
 pub use summary_line::{report_end_text, summary_text, trap_name};

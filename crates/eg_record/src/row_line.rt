@@ -40,7 +40,7 @@ pub fn push_row(text: &mut Vec<u8>, row: &Row) -> Result<(), NoMemory>
     ensures kept { OnErr result (text.new.items ≡ text.old.items) }
 {
     let mut line = [0; ROW_ROOM];
-    let start = put_line(row, &mut line);
+    let start = put_row_line(row, &mut line);
     text.extend_from_slice(&line[start..])?;
     Ok(())
 }
@@ -59,7 +59,7 @@ pub fn row_text(alloc: Global, row: &Row) -> Result<String, NoMemory>
 
 /// Puts the line of a row, with its LF, to the end of an array, and tells where it starts (docs/FORMATS.md,
 /// "The record"). Columns are put from the last to the first, since the digits of a number are found so.
-pub fn put_line(row: &Row, line: &mut [u8; ROW_ROOM]) -> usize
+pub fn put_row_line(row: &Row, line: &mut [u8; ROW_ROOM]) -> usize
     ensures put { drop result line.new ≡ row_line row.now }
     ensures ascii { IsAscii (numbers_text (row_numbers row.now)) }
     ensures start { result ≤ ROW_ROOM }

@@ -2,9 +2,9 @@ use Rattle.std.proofs.Common.{Some, ap, sym}
 use Rattle.eg_outcome.proofs.ShownLemmas.{noted, noted_whole, puts}
 use Rattle.eg_outcome.proofs.note.put_note.Goals as goal
 
-pub returns-in_default-put_line : goal.returns-in_default-put_line
-returns-in_default-put_line g c =
-    let put = c.put_line-in_default-put_line in
+pub returns-in_default-put_note_line : goal.returns-in_default-put_note_line
+returns-in_default-put_note_line g c =
+    let put = c.put_note_line-in_default-put_note_line in
     record {
       note = rw (sym c.as_bytes-file.ensures.value) (noted _ _ _ put.result put.ensures);
       done = λ done. absurd (c.in_default.not-Done done);

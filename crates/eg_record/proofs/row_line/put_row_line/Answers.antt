@@ -4,7 +4,7 @@ use Rattle.std.specs.Prelude.{codes}
 use Rattle.std.specs.Str.{IsAscii}
 use Rattle.eg_record.specs.declared.row.Row.{Row}
 use Rattle.eg_record.specs.Texts.{numbers_text, row_numbers, events_text, row_columns, row_line}
-use Rattle.eg_record.proofs.row_line.put_line.Goals as goal
+use Rattle.eg_record.proofs.row_line.put_row_line.Goals as goal
 
 -- the numbers, and what is found and heard
 whole : (row : Row) (numbers tail events new : List ℕ) → numbers ≡ row_numbers row → tail ≡ [] → events ≡ (events_text row ++ codes "\n") ++ tail →
