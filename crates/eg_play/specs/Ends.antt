@@ -26,8 +26,8 @@ use Rattle.eg_play.specs.Sweeping.{runs_over, table_over, swept_text}
 
 -- ---- runs are played ----
 
--- The ticks of these rows were made and counted, with the weights of the rows. Where memory ran out, only the
--- first of them were; the last of these may be counted without the weight of its row.
+-- the ticks of these rows were made and counted, with the weights of the rows; where memory ran out, the
+-- first of them were
 abbrev pub AreTicked : List Row → Change TickCount → Outcome → Type 0
 AreTicked rows ticks outcome.Memory = RanOutAmong rows ticks.before ticks.after
 AreTicked rows ticks o = ticks.after ≡ count_with ticks.before rows

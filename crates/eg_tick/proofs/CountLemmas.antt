@@ -59,41 +59,15 @@ counts_reverse was is n rows long e = e ∙ ap₂ (λ k w. tally ((was.count + k
 
 -- ---- memory ran out ----
 
--- between two ticks
-pub out_between : (was is : TickCount) (rows : List Row) (n : ℕ) → n ≤ length rows → is ≡ count_with was (take n rows) → RanOutAmong rows was is
-out_between was is rows n most e = record {
-  begun = n;
-  made = n;
-  most = most;
-  in_order = omega arith;
-  but_one = omega arith;
-  counted = ap (λ (k : TickCount). k.count) e ∙ ap (λ k. (was.count + k) % 2 ^ 64) (length-take-le n rows most);
-  weighed = ap (λ (k : TickCount). k.weights) e;
-}
-
--- within a tick, which is counted and weighs nothing
-pub out_within : (was mid is : TickCount) (rows : List Row) (n : ℕ) → n < length rows → mid ≡ count_with was (take n rows) →
-    is.count ≡ (mid.count + 1) % 2 ^ 64 → is.weights ≡ mid.weights → RanOutAmong rows was is
-out_within was mid is rows n below e count weights = record {
-  begun = n + 1;
-  made = n;
-  most = omega (arith, below);
-  in_order = omega arith;
-  but_one = omega arith;
-  counted = count ∙ more-mod (2 ^ 64) was.count (length (take n rows)) mid.count 1 (ap (λ (k : TickCount). k.count) e)
-      ∙ ap (λ k. (was.count + (k + 1)) % 2 ^ 64) (length-take-le n rows (under n (length rows) below));
-  weighed = weights ∙ ap (λ (k : TickCount). k.weights) e;
-}
-  where
-    under : (n k : ℕ) → n < k → n ≤ k
-    under n k l = omega arith
-
 -- behind a front of the rows
 pub out_behind : (was is : TickCount) (front rest whole : List Row) → front ++ rest ≡ whole → is ≡ count_with was front → RanOutAmong whole was is
 out_behind was is front rest whole parts e =
     let long : length front + length rest ≡ length whole = sym (length-append front rest) ∙ ap length parts in
-    out_between was is whole (length front) (omega (arith, long))
-    (e ∙ ap (count_with was) (sym (ap (take (length front)) (sym parts) ∙ take_at front rest (length front) refl)))
+    record {
+      made = length front;
+      most = omega (arith, long);
+      counted = e ∙ ap (count_with was) (sym (ap (take (length front)) (sym parts) ∙ take_at front rest (length front) refl));
+    }
 
 -- before all of them, and behind all
 pub out_before : (was : TickCount) (rows : List Row) → was.count < 2 ^ 64 → was.weights < 2 ^ 64 → RanOutAmong rows was was
@@ -108,20 +82,11 @@ pub out_among : (was mid is : TickCount) (before own rest whole : List Row) → 
 out_among was mid is before own rest whole parts e out =
     let long : length before + (length own + length rest) ≡ length whole =
     ap (λ n. length before + n) (sym (length-append own rest)) ∙ sym (length-append before (own ++ rest)) ∙ ap length parts in
-    let most : out.begun ≤ length own = out.most in
-    let in_order : out.made ≤ out.begun = out.in_order in
-    let but_one : out.begun ≤ out.made + 1 = out.but_one in
+    let most : out.made ≤ length own = out.most in
     record {
-      begun = length before + out.begun;
       made = length before + out.made;
       most = omega (arith, long, most);
-      in_order = omega (arith, in_order);
-      but_one = omega (arith, but_one);
-      counted = out.counted ∙ more-mod (2 ^ 64) was.count (length before) mid.count out.begun (ap (λ (k : TickCount). k.count) e);
-      weighed = out.weighed ∙ more-mod (2 ^ 64) was.weights (sum (map weight_of before)) mid.weights (sum (map weight_of (take out.made own)))
-          (ap (λ (k : TickCount). k.weights) e)
-          ∙ ap (λ n. (was.weights + n) % 2 ^ 64) (sym (weigh-append before (take out.made own))
-          ∙ ap (λ l. sum (map weight_of l)) (front out.made (omega (arith, most, in_order))));
+      counted = counts_more was mid is before (take out.made own) e out.counted ∙ ap (count_with was) (front out.made most);
     }
   where
     front : (n : ℕ) → n ≤ length own → before ++ take n own ≡ take (length before + n) whole

@@ -1,5 +1,5 @@
--- Each tick that is made is counted, with the weight of its row; where memory ran out the first of them are,
--- the last perhaps without its weight. Rows stand here in the order in which their ticks are made.
+-- Each tick that is made is counted, with the weight of its row, also where memory ran out. Rows stand here
+-- in the order in which their ticks are made.
 use Rattle.std.specs.Prelude.{◌≡◌, ℕ, ◌+◌, ◌%◌, ◌^◌, ◌≤◌, List, map, take, length, Result, Ok, Err}
 use Rattle.std.specs.List.{sum}
 use Rattle.eg_record.specs.declared.row.Row.{Row}
@@ -12,17 +12,12 @@ count_with was rows = record {
   weights = (was.weights + sum (map weight_of rows)) % 2 ^ 64;
 }
 
--- Memory ran out before these rows were made, while they were made, or after it. The first `begun` of their
--- ticks were begun, and are counted. The rows of the first `made` ticks are weighed: of all that were begun,
--- or of all but the last, where memory ran out within it.
+-- Memory ran out before these rows were made, between two of them, or after the last: the first of them were
+-- made, none or all perhaps, and are counted.
 pub record RanOutAmong (rows : List Row) (was is : TickCount) : Type 0 where
-  pub begun : ℕ
   pub made : ℕ
-  pub most : begun ≤ length rows
-  pub in_order : made ≤ begun
-  pub but_one : begun ≤ made + 1
-  pub counted : is.count ≡ (was.count + begun) % 2 ^ 64
-  pub weighed : is.weights ≡ (was.weights + sum (map weight_of (take made rows))) % 2 ^ 64
+  pub most : made ≤ length rows
+  pub counted : is ≡ count_with was (take made rows)
 
 -- on Ok these rows were made and counted; on Err memory ran out
 abbrev pub AreCounted : {T E : Type 0} → List Row → TickCount → TickCount → Result T E → Type 0

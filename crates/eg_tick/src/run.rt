@@ -1,10 +1,10 @@
 // A run of a gasoline engine on the bench.
-ghost use Rattle.std.specs.Prelude.{◌≡◌, ◌≤◌, ◌<◌, false, None, All, reverse, length, IfOk, OnOk};
+ghost use Rattle.std.specs.Prelude.{◌≡◌, ◌≤◌, ◌<◌, None, All, reverse, length, IfOk, OnOk, OnErr, IsTrue};
 ghost use Rattle.std.specs.Option.{option_copied};
 ghost use Rattle.eg_guard.specs.declared.regions.TheConstants.{DATA as CODE_END};
 ghost use Rattle.eg_answer.specs.Times.{reaction_of, test_ticks_of};
 ghost use Rattle.eg_values.specs.Excess.{BoundsLapses};
-ghost use Rattle.eg_fault.specs.Faults.{IsListed};
+ghost use Rattle.eg_fault.specs.Faults.{IsListed, IsNoneOrValid};
 ghost use Rattle.eg_record.specs.Rows.{AreRows};
 ghost use Rattle.eg_record.specs.Spans.{EachDriveSpan, EachTestSpan};
 ghost use Rattle.eg_model.specs.Engines.{gasoline};
@@ -13,13 +13,11 @@ ghost use Rattle.eg_model.specs.Rows.{record_rows, record_trap};
 ghost use Rattle.eg_model.specs.PowerCycles.{SpansBeginInTurn};
 ghost use Rattle.eg_model.specs.Records.{rows_to, ReactWithin, CutOneTickAfter, RowsReactAtOnce, CutStandingExcess, ExcessIsShort, AreOff, NeverFails};
 ghost use Rattle.eg_model.specs.Lapses.{IsLapse};
-ghost use Rattle.eg_fault.specs.Faults.{IsNoneOrValid};
-ghost use Rattle.eg_tick.specs.Counting.{AreCounted};
+ghost use Rattle.eg_tick.specs.Counting.{count_with};
 ghost use Rattle.eg_tick.specs.Benched.{gasoline_of};
 ghost use Rattle.eg_tick.specs.Run.{run_by, IsAt, IsRecordOf};
 
-use crate::bench::{bench_begin, bench_tick};
-use crate::{Controller, SlicePlan, Ticks};
+use crate::{Controller, SlicePlan, Ticks, bench_controller, bench_row};
 use eg_base::{Items, NoMemory};
 use eg_fault::Fault;
 use eg_guard::FlatMemory;
@@ -41,7 +39,8 @@ pub struct RunRecord {
 
 /// Runs a gasoline engine of the calibration's plant from rest on the bench, one tick for each drive row
 /// (docs/CONCEPT.md, "A run, tick by tick" and "The record of a run"). The ticks are counted in `steps`.
-/// NoMemory is its one refusal.
+/// NoMemory is its one refusal: room for all rows is taken before the first tick, and where there is none, no
+/// tick is made.
 pub fn run_one(
     alloc: Global,
     calibration: &Calibration,
@@ -90,10 +89,10 @@ pub fn run_one(
     ensures unpowered { IfOk result (λ made. EachTestSpan AreOff (reverse made.rows)) }
     ensures passes { IfOk result (λ made.
         All (NeverFails (option_copied fault.entry)) (reverse made.rows)) }
-    // Each tick is counted, and each row is weighed; where memory ran out, those of the first of them.
-    ensures counted { AreCounted (reverse (record_rows gasoline
-        (run_by calibration.now image.now (option_copied fault.entry) plan.now drive.now)))
-        steps.old steps.new result }
+    // Each tick is counted, and each row is weighed; where memory ran out, none was made.
+    ensures counted { OnOk result (steps.new ≡ count_with steps.old (reverse (record_rows gasoline
+        (run_by calibration.now image.now (option_copied fault.entry) plan.now drive.now)))) }
+    ensures unmade { OnErr result (steps.new ≡ steps.old) }
 {
     // Called for its clause alone: the calibration is an accepted one.
     let _rules = calibration.rules();
@@ -116,13 +115,11 @@ fn record_run(
     ensures made { IfOk result (λ made. IsRecordOf
         (run_by calibration.now image.now (option_copied fault.entry) plan.now drive.now)
         made.rows made.trap) }
-    ensures counted { AreCounted (reverse (record_rows gasoline
-        (run_by calibration.now image.now (option_copied fault.entry) plan.now drive.now)))
-        steps.old steps.new result }
+    ensures counted { OnOk result (steps.new ≡ count_with steps.old (reverse (record_rows gasoline
+        (run_by calibration.now image.now (option_copied fault.entry) plan.now drive.now)))) }
+    ensures unmade { OnErr result (steps.new ≡ steps.old) }
 {
-    // Called for its clause alone: both numbers are a u64.
-    let _numbers = (steps.count(), steps.sum());
-    let mut controller = bench_begin(calibration, image, fault, FlatMemory::new())?;
+    let mut controller = bench_controller(calibration, image, fault);
     let rows = make_rows(alloc, &mut controller, plan, drive, steps)?;
     Ok(record_of(rows, &controller))
 }
@@ -147,6 +144,7 @@ fn make_rows(
     steps: &mut Ticks,
 ) -> Result<Vec<Row>, NoMemory>
     requires none { controller.old.kept.ticks ≡ 0 }
+    requires sure { IsTrue controller.old.kept.memory.sure }
     requires most { length drive.now ≤ 20000 }
     ensures at { (r : Run) → r.plan ≡ plan.now → r.drive ≡ drive.now →
         IsAt gasoline gasoline_of r 0 controller.old →
@@ -156,14 +154,17 @@ fn make_rows(
         IfOk result (λ rows. rows.items ≡ reverse (rows_to gasoline r (length drive.now))) }
     ensures counted { (r : Run) → r.plan ≡ plan.now → r.drive ≡ drive.now →
         IsAt gasoline gasoline_of r 0 controller.old →
-        AreCounted (reverse (record_rows gasoline r)) steps.old steps.new result }
+        OnOk result (steps.new ≡ count_with steps.old (reverse (record_rows gasoline r))) }
+    ensures unmade { OnErr result (steps.new ≡ steps.old) }
 {
     // Called for its clause alone: both numbers are a u64.
     let _numbers = (steps.count(), steps.sum());
-    let mut rows = Vec::new(alloc);
+    let mut rows = Vec::with_capacity(alloc, drive.len())?;
     for tick in 0..drive.len() {
-        let row = bench_tick(controller, plan, &drive[tick], tick as u32, steps)?;
-        rows.push(row)?;
+        let row = bench_row(controller, plan, &drive[tick], tick as u32, steps);
+        let Ok(()) = rows.push(row) else {
+            unreachable!("there is room for the row of each tick");
+        };
     }
     Ok(rows)
 }

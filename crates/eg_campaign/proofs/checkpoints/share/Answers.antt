@@ -4,7 +4,7 @@ use Rattle.eg_model.specs.Bench.{Run}
 use Rattle.eg_campaign.specs.Plays.{run_with}
 use Rattle.eg_campaign.specs.Groups.{faultless}
 use Rattle.eg_campaign.specs.Checkpoints.{HasMade, AreCheckpoints}
-use Rattle.eg_tick.proofs.CountLemmas.{counted_err, out_between, long}
+use Rattle.eg_tick.proofs.CountLemmas.{counted_err, long}
 use Rattle.eg_campaign.proofs.OneGroup.{out_none}
 use Rattle.eg_campaign.proofs.CheckpointLemmas.{made_none, made_front, made_all, kept_none}
 use Rattle.eg_campaign.proofs.checkpoints.share.Goals as goal
@@ -35,8 +35,11 @@ returns-in_err-keep-clause-counted g c =
     let r : Run = (run_with c.args.calibration.now (faultless c.args.input.now)).run in
     let below : c.loop-tick.tick < length r.drive = subst (λ d. c.loop-tick.tick < length d) c.as_slice-tick-end.ensures c.loop-tick-test.true in
     let within : c.loop-tick.tick ≤ length r.drive = omega (arith, below) in
-    counted_err _ _ _ _ c.from_residual-in_err-keep.ensures.0 (out_between _ _ _ c.loop-tick.tick (subst (λ n. c.loop-tick.tick ≤ n) (long bench r) within)
-    (made_front weighed bench g.E.BenchedEngine.come_to r _ _ _ _ c.loop-tick.invariant.made within))
+    counted_err _ _ _ _ c.from_residual-in_err-keep.ensures.0 (record {
+      made = c.loop-tick.tick;
+      most = subst (λ n. c.loop-tick.tick ≤ n) (long bench r) within;
+      counted = made_front weighed bench g.E.BenchedEngine.come_to r _ _ _ _ c.loop-tick.invariant.made within;
+    })
 
 pub play_row-requires-clause-run : goal.play_row-requires-clause-run
 play_row-requires-clause-run g c = ((run_with c.args.calibration.now (faultless c.args.input.now)).run, record { plan = refl; drive = refl }, c.loop-tick.invariant.made.to)

@@ -1,4 +1,4 @@
-use Rattle.std.proofs.Common.{◌≡◌, ◌∙◌, sym, ap, subst, ◌+◌, ◌<◌, ◌≤◌, [], ◌∷◌, ◌++◌, length, arith}
+use Rattle.std.proofs.Common.{◌≡◌, ◌∙◌, sym, ap, subst, ◌+◌, ◌<◌, [], ◌∷◌, ◌++◌, length, arith}
 use Rattle.std.specs.Prelude.{reverse}
 use Rattle.std.proofs.lemmas.Grind.{common_steps}
 use Rattle.std.proofs.lemmas.List.{take_all}
@@ -10,61 +10,43 @@ use Rattle.eg_tick.specs.Counting.{count_with}
 use Rattle.eg_tick.specs.Benched.{gasoline_of}
 use Rattle.eg_tick.specs.Run.{IsAt}
 use Rattle.eg_tick.proofs.RunLemmas.{counted, counted-none, counted-more, drive-at}
-use Rattle.eg_tick.proofs.CountLemmas.{counted_err, out_between, out_within, long, counts_rows}
+use Rattle.eg_tick.proofs.CountLemmas.{long, counts_rows}
 use Rattle.eg_tick.proofs.run.make_rows.Goals as goal
 
 pub loop-tick-init : goal.loop-tick-init
 loop-tick-init c = record {
   ticks = c.requires.none;
+  sure = c.requires.sure;
+  room = c.in_ok-rows.ensures.capacity;
+  len = c.in_ok-rows.ensures.len;
   at = λ r plan drive at. at;
-  rows = λ r plan drive at. c.new-rows.ensures.items ∙ rows-none gasoline r;
-  counts = counted-none c.args.steps.now c.new-rows.result.items c.new-rows.ensures.items
+  rows = λ r plan drive at. c.in_ok-rows.ensures.items ∙ rows-none gasoline r;
+  counts = counted-none c.args.steps.now c.in_ok-rows.rows.items c.in_ok-rows.ensures.items
       (let e = c.count.ensures in let l = c.count.type_inv in subst (λ n. n < 18446744073709551616) e l)
       (let e = c.sum.ensures in let l = c.sum.type_inv in subst (λ n. n < 18446744073709551616) e l);
 }
 
-pub bench_tick-requires-clause-tick : goal.bench_tick-requires-clause-tick
-bench_tick-requires-clause-tick c = c.loop-tick.invariant.ticks
+pub bench_row-row-requires-clause-tick : goal.bench_row-row-requires-clause-tick
+bench_row-row-requires-clause-tick c = c.loop-tick.invariant.ticks
 
-pub bench_tick-requires-clause-fewer : goal.bench_tick-requires-clause-fewer
-bench_tick-requires-clause-fewer c = omega (arith, c.loop-tick.invariant.ticks, c.loop-tick-test.true, c.requires.most)
-
--- memory ran out within a tick, or behind it
-pub returns-in_err-row-clause-counted : goal.returns-in_err-row-clause-counted
-returns-in_err-row-clause-counted c = λ r plan drive at.
-    let below : c.loop-tick.tick < length r.drive = subst (λ d. c.loop-tick.tick < length d) (sym drive) c.loop-tick-test.true in
-    let all = reverse (record_rows gasoline r) in
-    counted_err all c.args.steps.now c.bench_tick.new.steps c.from_residual.result c.from_residual.ensures.0
-    (out_within c.args.steps.now c.loop-tick.steps c.bench_tick.new.steps all c.loop-tick.tick (subst (λ n. c.loop-tick.tick < n) (long gasoline r) below)
-    (counts_rows gasoline r c.loop-tick.tick c.args.steps.now c.loop-tick.steps c.loop-tick.rows.items (omega (arith, below)) (c.loop-tick.invariant.rows r plan drive at) c.loop-tick.invariant.counts)
-    c.in_err-row.ensures.count c.in_err-row.ensures.no_weight)
-
-pub returns-in_err-push-clause-counted : goal.returns-in_err-push-clause-counted
-returns-in_err-push-clause-counted c = λ r plan drive at.
-    let tick = c.loop-tick.tick in
-    let below : tick < length r.drive = subst (λ d. tick < length d) (sym drive) c.loop-tick-test.true in
-    let most : tick + 1 ≤ length r.drive = omega (arith, below) in
-    let all = reverse (record_rows gasoline r) in
-    counted_err all c.args.steps.now c.bench_tick.new.steps c.from_residual-in_err-push.result c.from_residual-in_err-push.ensures.0
-    (out_between c.args.steps.now c.bench_tick.new.steps all (tick + 1) (subst (λ n. tick + 1 ≤ n) (long gasoline r) most)
-    (counts_rows gasoline r (tick + 1) c.args.steps.now c.bench_tick.new.steps (c.loop-tick.rows.items ++ c.in_ok-row.row ∷ []) most
-    (rows-suc gasoline r tick c.loop-tick.rows.items c.in_ok-row.row (c.loop-tick.invariant.rows r plan drive at)
-    (c.in_ok-row.ensures.row r plan (drive-at r c.args.drive.now tick _ drive c.loop-tick-test.true c.index-drive-tick.is) (c.loop-tick.invariant.at r plan drive at)))
-    (counted-more c.args.steps.now c.loop-tick.steps c.bench_tick.new.steps tick c.loop-tick.rows.items c.in_ok-row.row
-    c.loop-tick.invariant.counts c.in_ok-row.ensures.count c.in_ok-row.ensures.weight)))
+pub bench_row-row-requires-clause-fewer : goal.bench_row-row-requires-clause-fewer
+bench_row-row-requires-clause-fewer c = omega (arith, c.loop-tick.invariant.ticks, c.loop-tick-test.true, c.requires.most)
 
 pub loop-tick-preserved : goal.loop-tick-preserved
 loop-tick-preserved c =
-    let pushed : c.loop-tick.rows.items ++ c.in_ok-row.row ∷ [] ≡ c.push.new.self.items = grind (arith, common_steps) in
+    let pushed : c.loop-tick.rows.items ++ c.bench_row-row.result ∷ [] ≡ c.push.new.self.items = grind (arith, common_steps) in
     record {
-      ticks = c.in_ok-row.ensures.ticks;
-      at = λ r plan drive at. c.in_ok-row.ensures.at r plan
+      ticks = c.bench_row-row.ensures.ticks;
+      sure = c.bench_row-row.ensures.stays_sure;
+      room = omega (arith, c.loop-tick.invariant.room, c.push.ensures.capacity);
+      len = grind (arith, common_steps);
+      at = λ r plan drive at. c.bench_row-row.ensures.at r plan
           (drive-at r c.args.drive.now c.loop-tick.tick _ drive c.loop-tick-test.true c.index-drive-tick.is) (c.loop-tick.invariant.at r plan drive at);
-      rows = λ r plan drive at. sym pushed ∙ rows-suc gasoline r c.loop-tick.tick c.loop-tick.rows.items c.in_ok-row.row (c.loop-tick.invariant.rows r plan drive at)
-          (c.in_ok-row.ensures.row r plan
+      rows = λ r plan drive at. sym pushed ∙ rows-suc gasoline r c.loop-tick.tick c.loop-tick.rows.items c.bench_row-row.result (c.loop-tick.invariant.rows r plan drive at)
+          (c.bench_row-row.ensures.row r plan
           (drive-at r c.args.drive.now c.loop-tick.tick _ drive c.loop-tick-test.true c.index-drive-tick.is) (c.loop-tick.invariant.at r plan drive at));
-      counts = counted-more c.args.steps.now c.loop-tick.steps c.bench_tick.new.steps c.loop-tick.tick c.loop-tick.rows.items c.in_ok-row.row
-          c.loop-tick.invariant.counts c.in_ok-row.ensures.count c.in_ok-row.ensures.weight
+      counts = counted-more c.args.steps.now c.loop-tick.steps c.bench_row-row.new.steps c.loop-tick.tick c.loop-tick.rows.items c.bench_row-row.result
+          c.loop-tick.invariant.counts c.bench_row-row.ensures.count c.bench_row-row.ensures.weight
           ∙ ap (counted c.args.steps.now (c.loop-tick.tick + 1)) pushed;
     }
 
