@@ -7,8 +7,9 @@ use Rattle.eg_plan.specs.Rules.{AreRuns}
 use Rattle.eg_plan.specs.declared.run.RunPlan.{RunPlan}
 use Rattle.eg_plan.specs.declared.run_input.RunInput.{RunInput}
 use Rattle.eg_outcome.specs.Changes.{Change, change}
-use Rattle.eg_outcome.specs.Outcomes.{Then}
-use Rattle.eg_outcome.specs.Reads.{refused, whole, BytesCome, ReadComes, FileComes}
+use Rattle.eg_outcome.specs.Outcomes.{Then, TellsNoMemory}
+use Rattle.eg_outcome.specs.Reads.{refused, whole, BytesCome, ReadComes, FileComes, KeepsFiles}
+use Rattle.eg_outcome.specs.Inputs.{outcomes}
 use Rattle.eg_outcome.specs.Images.{image_or_refusal}
 use Rattle.eg_input.specs.Images.{image_words}
 use Rattle.eg_input.specs.declared.fault.ImageFault.{ImageFault}
@@ -22,7 +23,7 @@ use Rattle.eg_outcome.specs.declared.outcome.Role.TheVariants as role
 use Rattle.eg_outcome.specs.declared.end.End.{End}
 use Rattle.eg_outcome.specs.Campaigns.{campaign_file}
 use Rattle.eg_outcome.specs.Roles.{role_in}
-use Rattle.eg_outcome.specs.Runs.{IsOf, name_by, name_for, IsNamedIfOfRun, NamesFile, FindsNamed, run_named}
+use Rattle.eg_outcome.specs.Runs.{IsOf, name_by, name_for, IsNamedIfOfRun, NamesFile, FindsNamed, ReadsCampaign, run_named}
 use Rattle.eg_outcome.proofs.InputsLemmas.{named}
 
 -- the whole of a file is refused for its size alone
@@ -117,8 +118,8 @@ pub found-comes : (P : Option (ℕ × RunPlan) → Change ShownStore → Result 
 found-comes P campaign name before between after found come (plans, reads, is) same comes =
     (Ok plans, reads, subst (λ one. P one (change before after) come) (sym is) (subst (λ shown. P (Some found) (change shown after) come) same comes))
 
--- and they are told by the name that the campaign gives
-pub names-files : (campaign name : List ℕ) (store : ShownStore) (n : ℕ) (plan : RunPlan) (result : Result RunInput End)
+-- they are told by the name that the campaign gives
+names-files : (campaign name : List ℕ) (store : ShownStore) (n : ℕ) (plan : RunPlan) (result : Result RunInput End)
     → FindsNamed campaign name store (n, plan)
     → IfErr result (λ end. (end.file ≡ name_by plan (role_in end.outcome)) × IsOf n (role_in end.outcome))
     → IfErr result (λ end. NamesFile campaign store (role_in end.outcome) end.file)
@@ -129,6 +130,21 @@ names-files campaign name store n plan (Err end) (plans, comes, found) (is, of) 
     go (before, rest, parts, at) =
         names-file campaign store plans (role_in end.outcome) end.file comes (is ∙ named before plan rest plans n (role_in end.outcome) parts at of)
         (subst (IsNamedIfOfRun (role_in end.outcome)) (sym is) (by_plan plan (role_in end.outcome)))
+
+-- so what holds of the reading of the campaign and of that of these files holds of both together
+pub reads-both : (campaign name : List ℕ) (before between after : ShownStore) (n : ℕ) (plan : RunPlan) (result : Result RunInput End)
+    → FindsNamed campaign name before (n, plan) → ReadsCampaign campaign (change before between) (let read : Result (ℕ × RunPlan) End = Ok (n, plan) in read)
+    → IfErr result (λ end. (end.file ≡ name_by plan (role_in end.outcome)) × IsOf n (role_in end.outcome)) → IfErr result (λ end. TellsNoMemory end.outcome)
+    → KeepsFiles (change between after) result → ReadsCampaign campaign (change before after) result
+reads-both campaign name before between after n plan result found read told no_memory keeps = record {
+  named = names-files campaign name before n plan result found told;
+  missing = λ sure missing. not-told (n, plan) (outcomes result) (read.missing sure missing);
+  no_memory = no_memory;
+  keeps = record {
+    files = keeps.files ∙ read.keeps.files;
+    shown = λ ok. keeps.shown ok ∙ read.keeps.shown refl;
+  };
+}
 
 -- the faults of an accepted campaign are valid
 pub valid_faults : (plans : List RunPlan) → AreRuns plans → All (λ plan. IsNoneOrValid plan.fault) plans
