@@ -31,50 +31,50 @@ abbrev pub line_of : (file text : List ℕ) → List ℕ
 line_of file text = shown_name file ++ (codes ": " ++ (text ++ codes "\n"))
 
 -- what is said of a calibration's fault
-abbrev pub calibration_text : CalFault → List ℕ
-calibration_text cal_fault.Memory = codes "no memory"
-calibration_text cal_fault.Text = codes "not TOML"
-calibration_text (cal_fault.Key key) = codes "key " ++ text_of key
-calibration_text (cal_fault.Axis key) = codes "axis " ++ text_of key
-calibration_text (cal_fault.Rising row) = codes "row " ++ decimal row ++ codes " falls"
-calibration_text cal_fault.Window = codes "answer window"
-calibration_text (cal_fault.Answer index) = codes "answer " ++ decimal index
+abbrev pub calibration_says : CalFault → List ℕ
+calibration_says cal_fault.Memory = codes "no memory"
+calibration_says cal_fault.Text = codes "not TOML"
+calibration_says (cal_fault.Key key) = codes "key " ++ text_of key
+calibration_says (cal_fault.Axis key) = codes "axis " ++ text_of key
+calibration_says (cal_fault.Rising row) = codes "row " ++ decimal row ++ codes " falls"
+calibration_says cal_fault.Window = codes "answer window"
+calibration_says (cal_fault.Answer index) = codes "answer " ++ decimal index
 
 -- what is said of a fault of the records of a check file or a trace
-abbrev pub trace_text : TraceFault → List ℕ
-trace_text trace_fault.Memory = codes "no memory"
-trace_text trace_fault.Header = codes "header"
-trace_text (trace_fault.Row line) = codes "record " ++ decimal line
-trace_text trace_fault.Empty = codes "no records"
-trace_text trace_fault.Long = codes "more than 20000 records"
+abbrev pub trace_says : TraceFault → List ℕ
+trace_says trace_fault.Memory = codes "no memory"
+trace_says trace_fault.Header = codes "header"
+trace_says (trace_fault.Row line) = codes "record " ++ decimal line
+trace_says trace_fault.Empty = codes "no records"
+trace_says trace_fault.Long = codes "more than 20000 records"
 
 -- what is said of an answer that breaks a law of engines
-abbrev pub answer_text : AnswerFault → List ℕ
-answer_text (answer_fault.LoadBelowTorque n) = codes "load below torque in record " ++ decimal n
-answer_text (answer_fault.TorqueWhileOff n) = codes "torque with the stages off in record " ++ decimal n
+abbrev pub answer_says : AnswerFault → List ℕ
+answer_says (answer_fault.LoadBelowTorque n) = codes "load below torque in record " ++ decimal n
+answer_says (answer_fault.TorqueWhileOff n) = codes "torque with the stages off in record " ++ decimal n
 
 -- what is said of an image's fault
-abbrev pub image_text : ImageFault → List ℕ
-image_text image_fault.Memory = codes "no memory"
-image_text (image_fault.Line line) = codes "line " ++ decimal line
-image_text image_fault.Long = codes "more than 1024 lines"
+abbrev pub image_says : ImageFault → List ℕ
+image_says image_fault.Memory = codes "no memory"
+image_says (image_fault.Line line) = codes "line " ++ decimal line
+image_says image_fault.Long = codes "more than 1024 lines"
 
 -- what is said of a source's fault
-abbrev pub source_text : AsmFault → List ℕ
-source_text asm_fault.Memory = codes "no memory"
-source_text (asm_fault.Line line) = codes "line " ++ decimal line
-source_text (asm_fault.Label line) = codes "label in line " ++ decimal line
-source_text asm_fault.Long = codes "more than 1024 words"
+abbrev pub source_says : AsmFault → List ℕ
+source_says asm_fault.Memory = codes "no memory"
+source_says (asm_fault.Line line) = codes "line " ++ decimal line
+source_says (asm_fault.Label line) = codes "label in line " ++ decimal line
+source_says asm_fault.Long = codes "more than 1024 words"
 
 -- what is said of a campaign's fault
-abbrev pub campaign_text : CampaignFault → List ℕ
-campaign_text campaign_fault.Memory = codes "no memory"
-campaign_text campaign_fault.Text = codes "not TOML"
-campaign_text (campaign_fault.Key n key) = codes "run " ++ decimal n ++ codes " key " ++ run_key_text key
-campaign_text (campaign_fault.TwoFaults n) = codes "run " ++ decimal n ++ codes " has two faults"
-campaign_text (campaign_fault.Name n) = codes "run " ++ decimal n ++ codes " repeats a name"
-campaign_text campaign_fault.Many = codes "more than 1000 runs"
-campaign_text (campaign_fault.Ticks n) = codes "run " ++ decimal n ++ codes " passes 1000000 ticks"
+abbrev pub campaign_says : CampaignFault → List ℕ
+campaign_says campaign_fault.Memory = codes "no memory"
+campaign_says campaign_fault.Text = codes "not TOML"
+campaign_says (campaign_fault.Key n key) = codes "run " ++ decimal n ++ codes " key " ++ run_key_text key
+campaign_says (campaign_fault.TwoFaults n) = codes "run " ++ decimal n ++ codes " has two faults"
+campaign_says (campaign_fault.Name n) = codes "run " ++ decimal n ++ codes " repeats a name"
+campaign_says campaign_fault.Many = codes "more than 1000 runs"
+campaign_says (campaign_fault.Ticks n) = codes "run " ++ decimal n ++ codes " passes 1000000 ticks"
 
 -- the line that says this, for a file of this name
 abbrev pub line_said : Says → List ℕ → List ℕ
@@ -88,14 +88,14 @@ line_said (says.Alone words) file = words.now ++ codes "\n"
 -- the line that notes a refusal, for a file of this name
 abbrev pub refusal_note : Refusal → List ℕ → List ℕ
 refusal_note (refusal.Size _) file = line_of file (codes "longer than 4194304 bytes")
-refusal_note (refusal.Calibration fault) file = line_of file (calibration_text fault)
-refusal_note (refusal.Check fault) file = line_of file (trace_text fault)
-refusal_note (refusal.Campaign fault) file = line_of file (campaign_text fault)
-refusal_note (refusal.Trace _ fault) file = line_of file (trace_text fault)
-refusal_note (refusal.Image _ fault) file = line_of file (image_text fault)
+refusal_note (refusal.Calibration fault) file = line_of file (calibration_says fault)
+refusal_note (refusal.Check fault) file = line_of file (trace_says fault)
+refusal_note (refusal.Campaign fault) file = line_of file (campaign_says fault)
+refusal_note (refusal.Trace _ fault) file = line_of file (trace_says fault)
+refusal_note (refusal.Image _ fault) file = line_of file (image_says fault)
 refusal_note refusal.NoRun file = codes "no such run\n"
-refusal_note (refusal.Source fault) file = line_of file (source_text fault)
-refusal_note (refusal.Answer fault) file = line_of file (answer_text fault)
+refusal_note (refusal.Source fault) file = line_of file (source_says fault)
+refusal_note (refusal.Answer fault) file = line_of file (answer_says fault)
 refusal_note refusal.Grid file = codes "grid too large\n"
 
 -- the line that notes an outcome, for a file of this name

@@ -1,7 +1,7 @@
 // What a note says of a refusal.
 ghost use Rattle.std.specs.Prelude.{◌≡◌, ℕ, List};
-ghost use Rattle.eg_outcome.specs.Notes.{answer_text, calibration_text, campaign_text, image_text, line_of, line_said, refusal_note};
-ghost use Rattle.eg_outcome.specs.Notes.{source_text, trace_text};
+ghost use Rattle.eg_outcome.specs.Notes.{answer_says, calibration_says, campaign_says, image_says, line_of, line_said, refusal_note};
+ghost use Rattle.eg_outcome.specs.Notes.{source_says, trace_says};
 
 use crate::{AnswerFault, Refusal};
 use eg_asm::AsmFault;
@@ -46,7 +46,7 @@ pub(crate) fn refusal_says(refusal: &Refusal) -> Says<'_>
 
 /// What is said of a calibration's fault.
 fn calibration_says(fault: &CalFault) -> Says<'_>
-    ensures { (file : List ℕ) → line_said result file ≡ line_of file (calibration_text fault.now) }
+    ensures { (file : List ℕ) → line_said result file ≡ line_of file (calibration_says fault.now) }
 {
     match fault {
         CalFault::Memory => Says::Words("no memory"),
@@ -61,7 +61,7 @@ fn calibration_says(fault: &CalFault) -> Says<'_>
 
 /// What is said of a fault of the records of a check file or a trace.
 fn trace_says(fault: &TraceFault) -> Says<'_>
-    ensures { (file : List ℕ) → line_said result file ≡ line_of file (trace_text fault.now) }
+    ensures { (file : List ℕ) → line_said result file ≡ line_of file (trace_says fault.now) }
 {
     match fault {
         TraceFault::Memory => Says::Words("no memory"),
@@ -74,7 +74,7 @@ fn trace_says(fault: &TraceFault) -> Says<'_>
 
 /// What is said of an answer that breaks a law of engines.
 fn answer_says(fault: &AnswerFault) -> Says<'_>
-    ensures { (file : List ℕ) → line_said result file ≡ line_of file (answer_text fault.now) }
+    ensures { (file : List ℕ) → line_said result file ≡ line_of file (answer_says fault.now) }
 {
     match fault {
         AnswerFault::LoadBelowTorque { record } => {
@@ -88,7 +88,7 @@ fn answer_says(fault: &AnswerFault) -> Says<'_>
 
 /// What is said of an image's fault.
 fn image_says(fault: &ImageFault) -> Says<'_>
-    ensures { (file : List ℕ) → line_said result file ≡ line_of file (image_text fault.now) }
+    ensures { (file : List ℕ) → line_said result file ≡ line_of file (image_says fault.now) }
 {
     match fault {
         ImageFault::Memory => Says::Words("no memory"),
@@ -99,7 +99,7 @@ fn image_says(fault: &ImageFault) -> Says<'_>
 
 /// What is said of a source's fault.
 fn source_says(fault: &AsmFault) -> Says<'_>
-    ensures { (file : List ℕ) → line_said result file ≡ line_of file (source_text fault.now) }
+    ensures { (file : List ℕ) → line_said result file ≡ line_of file (source_says fault.now) }
 {
     match fault {
         AsmFault::Memory => Says::Words("no memory"),
@@ -111,7 +111,7 @@ fn source_says(fault: &AsmFault) -> Says<'_>
 
 /// What is said of a campaign's fault.
 fn campaign_says(fault: &CampaignFault) -> Says<'_>
-    ensures { (file : List ℕ) → line_said result file ≡ line_of file (campaign_text fault.now) }
+    ensures { (file : List ℕ) → line_said result file ≡ line_of file (campaign_says fault.now) }
 {
     match fault {
         CampaignFault::Memory => Says::Words("no memory"),
