@@ -20,8 +20,11 @@ pub struct TrustedStore<'a, R: Files + Drop> {
 }
 
 impl<'a, R: Files + Drop> TrustedStore<'a, R> {
-    /// Those for a command of these words.
-    pub fn new(runtime: &'a R, words: &'a [String]) -> TrustedStore<'a, R> {
+    /// Those for a command of these words. No read has failed yet.
+    pub fn new(runtime: &'a R, words: &'a [String]) -> TrustedStore<'a, R>
+        ensures { ⟦<TrustedStore<'a, R> as Store>⟧.shows result
+            ≡ record { files = None; faults = 0; sure = false } }
+    {
         TrustedStore {
             runtime,
             store: FileStore::new(runtime),
