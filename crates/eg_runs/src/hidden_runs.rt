@@ -26,9 +26,9 @@ pub fn pair_that_is_seldom_apart()
         ≡ reported (Some (found.Pedal, 7)) None None None }
 {}
 
-/// A module that doesn't run isn't found in drive spans that are shorter than R (docs/CONCEPT.md, "Why the
-/// unit reacts"): a test takes 31 ticks, and each drive span ends before a third wrong verdict. One tick
-/// more, and wrong answers are found.
+/// A module that doesn't run isn't found in drive spans that are shorter than N question periods
+/// (docs/CONCEPT.md, "Why the unit reacts"): a test takes 31 ticks, and each drive span ends before a third
+/// wrong verdict. One tick more, and wrong answers are found.
 pub fn skips_in_short_spans()
     ensures hidden { report_on (run_of idle (fault_from 0 (Skip 3)) (cycle 60 ++ cycle 60))
         ≡ reported None None None None }

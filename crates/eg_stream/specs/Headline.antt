@@ -101,7 +101,7 @@ ShowAnswers (row ∷ rows) (answer ∷ before) =
     (row.drive ≡ answer.drive) × HasShown row answer.told × ShowAnswers rows before
 ShowAnswers _ _ = ⊥
 
--- These rows show the run of these answers, as those of the bench show theirs (`ShowsRun` of `eg_model`): the
+-- These rows show the run of these answers, as those of the bench show theirs (`ShowsRun` of `eg_laws`): the
 -- tick of each row is the count of the rows before it; it has what was answered, and the permitted torque by
 -- the drive rows of its span; where the stages are off there is no torque; and the paths do what the fault
 -- makes them.
