@@ -55,7 +55,7 @@ pub fn lines(cal: &Calibration) -> Vec<String> {
     lines.push(found("halt", "both levels", "outputs stay as they are", "answers", reaction, Off::From(reaction)));
     let outside = "answers outside the window";
     lines.push(found("timing", outside, "no answer is right", "answers", reaction, Off::From(reaction)));
-    lines.push(unfound("timing", "answers inside the window", "none", Off::Confirmed(1)));
+    lines.push(unfound("timing", "answers inside the window", "one verdict may be wrong", Off::Confirmed(1)));
     lines.push(unfound("wild", "opens path 2 at times", "cut without need", Off::Ordered(1)));
     lines.push(unfound("wild", "never opens path 2", "no cut by path 2", Off::Confirmed(1)));
     for (path, late) in [(1, reaction), (2, 1)] {

@@ -53,7 +53,7 @@ coverage_known : coverage_text some_ticks
     ++ codes "flip,any word,a wrong word of level 2,mirror,1,1,0\n"
     ++ codes "halt,both levels,outputs stay as they are,answers,34,34,0\n"
     ++ codes "timing,answers outside the window,no answer is right,answers,34,34,0\n"
-    ++ codes "timing,answers inside the window,none,-,-,confirmed + 1,1\n"
+    ++ codes "timing,answers inside the window,one verdict may be wrong,-,-,confirmed + 1,1\n"
     ++ codes "wild,opens path 2 at times,cut without need,-,-,ordered + 1,1\n"
     ++ codes "wild,never opens path 2,no cut by path 2,-,-,confirmed + 1,1\n"
     ++ codes "path1-closed,without a reset,no cut by path 1,-,-,confirmed + 34,1\n"

@@ -165,7 +165,7 @@ impl CoverageCase {
             }
             CoverageCase::Flip => ",a wrong word of level 2,mirror",
             CoverageCase::Halt => ",outputs stay as they are,answers",
-            CoverageCase::TimingInside => ",none,-",
+            CoverageCase::TimingInside => ",one verdict may be wrong,-",
             CoverageCase::WildOpens | CoverageCase::PathOpen => ",cut without need,-",
             CoverageCase::WildNever | CoverageCase::Path2Driven => ",no cut by path 2,-",
             CoverageCase::Path1Driven => ",no cut by path 1,-",
