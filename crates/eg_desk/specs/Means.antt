@@ -1,7 +1,7 @@
 -- Outside the headline. What the numbers of each row of `coverage` mean, by the records of runs on the bench:
--- each row holds of every run by its calibration under a valid fault of the row's class. And which faults can
--- stay hidden where a row says so: of a script within the tolerance nothing is said. Rows of a record stand
--- newest first.
+-- each row holds of every run by its calibration under a valid fault of the row's class. And where a row says
+-- that faults can stay hidden, which ones: all of the class, or those that are named below. Rows of a record
+-- stand newest first.
 use Rattle.std.specs.Prelude.{◌≡◌, ◌==◌, ◌⊎◌, ℕ, ◌+◌, ◌≤◌, ◌<◌, Bool, true, false, not, ◌&&◌, max, nat_le, List, [], ◌∷◌, ◌++◌, All, length, Option, Some, None}
 use Rattle.eg_answer.specs.Times.{HasMissSpacing}
 use Rattle.eg_values.specs.Calibration.{CalibrationParts, IsAccepted}
@@ -148,10 +148,10 @@ AllHideAtRest cal meant =
     IsAccepted cal → (fault : Fault) → IsValid fault → meant fault.class ≡ true →
     CanStayHidden diesel cal fault
 
--- offsets within the tolerance of a pair stay hidden (where all tolerances are 0 there are none, and nothing
--- is said); so do scripts within that of the pedal or the speed, where these stand still; and so do send
--- ticks that are moved within the window, and lapses whose misses lie as far apart as `spacing` of `limits`
--- says
+-- offsets within the tolerance of a pair stay hidden (there are none where it is 0; of a load's, those with
+-- which a raise of 10,000 and the threshold cover the estimate of the greatest load then read); so do scripts
+-- on a pedal or speed track, within the tolerance of its reading at rest; and so do send ticks that are moved
+-- within the window, and lapses whose misses lie as far apart as `spacing` of `limits` says
 abbrev pub SmallOffsetsStay : Type 0
 SmallOffsetsStay = (engine : EngineKind) → SmallOffsetsHide (bench_of engine)
 
