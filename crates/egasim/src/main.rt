@@ -7,8 +7,7 @@ use eg_desk::command_words;
 use eg_lines::LateLines;
 use eg_outcome::TrustedStore;
 use eg_tick::Ticks;
-use std::alloc::Global;
-use std::io;
+use std::env;
 use std::process::ExitCode;
 
 /// The exit status where no memory is found for the words.
@@ -16,13 +15,8 @@ const NO_MEMORY: u8 = 6;
 
 fn main(rt: HostRuntime) -> ExitCode {
     let alloc = rt.alloc();
-    let words = match command_words(&rt) {
-        Ok(words) => words,
-        Err(error) if error.kind() == io::ErrorKind::OutOfMemory => return ExitCode::from(
-            NO_MEMORY,
-        ),
-        // A word that isn't UTF-8 is no form of a command, and no words are none either.
-        Err(_) => Vec::new(alloc),
+    let Ok(words) = command_words(alloc, env::args(&rt)) else {
+        return ExitCode::from(NO_MEMORY);
     };
     let mut store = TrustedStore::new(&rt, &words);
     let mut lines = LateLines::new(alloc, rt.stdin());
