@@ -1,6 +1,5 @@
 // `answers FILE`: the right answers to the questions of a calibration file.
 ghost use Rattle.std.specs.Prelude.{◌≡◌, ◌++◌, IfOk, OnOk, string_bytes};
-ghost use Rattle.eg_toml.specs.Refusals.{IsRead};
 ghost use Rattle.eg_cal.specs.declared.key.CalFault.TheVariants.{Memory};
 ghost use Rattle.eg_outcome.specs.Changes.{change_of};
 ghost use Rattle.eg_outcome.specs.Outcomes.{LineEnds};

@@ -1,5 +1,5 @@
 // How long an excess can last by a calibration, how great it can be, and how long the ramp is.
-ghost use Rattle.std.specs.Prelude.{◌≡◌, ◌≤◌, max, min};
+ghost use Rattle.std.specs.Prelude.{◌≡◌, max, min};
 ghost use Rattle.std.specs.List.{fold};
 ghost use Rattle.eg_values.specs.Excess.{greatest_excess, greatest_permitted, greatest_torque, least_permitted, longest_stretch, ramp_ticks};
 

@@ -1,7 +1,6 @@
 // The calibration that a command uses.
 ghost use Rattle.std.specs.Prelude.{◌≡◌, ◌↔◌, Err, IfErr, IsTrue, None};
 ghost use Rattle.std.specs.Option.{option_copied};
-ghost use Rattle.eg_toml.specs.Refusals.{IsRead};
 ghost use Rattle.eg_cal.specs.declared.key.CalFault.TheVariants.{Memory};
 ghost use Rattle.eg_outcome.specs.Changes.{change_of};
 ghost use Rattle.eg_outcome.specs.Reads.{KeepsFiles, ReadsFile, Says, refused};

@@ -1,6 +1,5 @@
 // The campaign that a command plays.
 ghost use Rattle.std.specs.Prelude.{IfErr, IfOk};
-ghost use Rattle.eg_toml.specs.Refusals.{IsRead, seen};
 ghost use Rattle.eg_plan.specs.declared.key.CampaignFault.TheVariants.{Memory};
 ghost use Rattle.eg_plan.specs.Rules.{AreRuns};
 ghost use Rattle.eg_outcome.specs.Changes.{change_of};

@@ -1,15 +1,14 @@
 // The controller: what it is made of, and how it begins.
-ghost use Rattle.std.specs.Prelude.{◌≡◌, ◌+◌, ◌%◌, ◌^◌, ◌≤◌, ◌<◌, true, false, length, replicate, List, [], ◌∷◌};
-ghost use Rattle.std.specs.Prelude.{IsTrue, None, IsOk, IsErr, IfOk, OnOk, OnErr};
+ghost use Rattle.std.specs.Prelude.{◌≡◌, ◌+◌, ◌%◌, ◌^◌, ◌≤◌, ◌<◌, true, false, length, replicate, List, []};
+ghost use Rattle.std.specs.Prelude.{IsTrue, None, IsOk, IfOk, OnErr};
 ghost use Rattle.std.specs.Option.{option_or};
 ghost use Rattle.eg_guard.specs.declared.regions.TheConstants.{DATA as CODE_END, WORDS};
 ghost use Rattle.eg_model.specs.History.{Setting, Entry};
-ghost use Rattle.eg_model.specs.Spans.{moments, next};
-ghost use Rattle.eg_model.specs.Rows.{row_of, trap_in, first_trap};
+ghost use Rattle.eg_model.specs.Spans.{moments};
+ghost use Rattle.eg_model.specs.Rows.{trap_in, first_trap};
 ghost use Rattle.eg_model.specs.Records.{NeverFails};
 ghost use Rattle.eg_fault.specs.Faults.{IsNoneOrValid};
-ghost use Rattle.eg_tick.specs.Stands.{Stands, IsController};
-ghost use Rattle.eg_tick.specs.Entering.{StaysOrBegins};
+ghost use Rattle.eg_tick.specs.Stands.{Stands};
 ghost use Rattle.eg_tick.specs.Advancing.{world_before, IsTick, IsTrapped, HoldsOutputs, RowIsUnpowered, RowCutsSharply, RowReactsInTime, RowReactsAtOnce, RowCutsStandingExcess, HistoryHasShortExcess};
 ghost use Rattle.eg_tick.specs.Margins.{counters_in_run};
 ghost use Rattle.eg_tick.specs.Weights.{weight_of};

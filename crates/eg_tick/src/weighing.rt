@@ -1,14 +1,11 @@
 // What the debouncers weigh after a tick.
-ghost use Rattle.std.specs.Prelude.{◌≡◌, ℕ, ◌+◌, List};
+ghost use Rattle.std.specs.Prelude.{◌≡◌, ℕ, ◌+◌};
 ghost use Rattle.eg_level2.specs.Words.{words_of};
 ghost use Rattle.eg_record.specs.Margins.{IsMarginTallyOf};
-ghost use Rattle.eg_model.specs.History.{Setting, Entry};
-ghost use Rattle.eg_model.specs.Spans.{moments};
 ghost use Rattle.eg_model.specs.Bench.{Run};
 ghost use Rattle.eg_model.specs.Records.{row_at};
 ghost use Rattle.eg_tick.specs.Run.{IsAt};
-ghost use Rattle.eg_tick.specs.Stands.{Stands};
-ghost use Rattle.eg_tick.specs.Margins.{counters_in_run, counters_kept, weighed_to};
+ghost use Rattle.eg_tick.specs.Margins.{counters_kept, weighed_to};
 
 use crate::{BenchedEngine, Controller};
 use eg_guard::Guarded;
