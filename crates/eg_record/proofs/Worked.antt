@@ -1,6 +1,6 @@
 -- Lines of rows and of summaries, a whole summary, the two excesses, and spans, computed from the definitions.
 use Rattle.std.proofs.Common.{◌≡◌, ◌∷◌, ◌++◌, [], ◌*◌, ℕ, List, true, false, None, Some, refl, codes}
-use Rattle.std.specs.Prelude.{Option, ◌+◌, ◌==◌, length, count_by}
+use Rattle.std.specs.Prelude.{Option, ◌==◌, count_by}
 use Rattle.std.specs.Fmt.{digits}
 use Rattle.eg_num.specs.Drive.{driven}
 use Rattle.eg_num.specs.declared.watches.Watches.{Watches}

@@ -1,5 +1,5 @@
 // How near a run came to a cut.
-ghost use Rattle.std.specs.Prelude.{◌≡◌, max, List, [], ◌∷◌, not, ◌||◌, false, Some, if◌then◌else◌};
+ghost use Rattle.std.specs.Prelude.{◌≡◌, List, [], ◌∷◌, not, false, Some, if◌then◌else◌};
 ghost use Rattle.eg_record.specs.Detection.{is_trip};
 ghost use Rattle.eg_record.specs.Margins.{IsMarginTallyOf, Weighed, greater_than, margins_of, no_margins, surplus_at};
 ghost use Rattle.eg_record.specs.RowMore.{greater_counters};
