@@ -20,6 +20,7 @@ use Rattle.eg_model.proofs.SpanLaws.{reaction_least}
 use Rattle.eg_laws.proofs.BurstLaws.{bad_in-cons, bursts_are_sparse}
 use Rattle.eg_laws.proofs.StretchLaws.{Ends}
 use Rattle.eg_laws.proofs.StretchRows.{ends_in_time, ends_at_once}
+use Rattle.eg_model.proofs.ReactionLaw.{reacts_in_time}
 
 -- ---- bits ----
 
@@ -121,12 +122,13 @@ module _ {E : Type 0} {b : BenchEngine E} {Keeps : PlantParts → E → Type 0} 
       (reaction_of r.setting.cal.times)) r
       (λ start count span is later window before e. few_rows r.setting.cal.rules.torque run.accepted.torque r.setting.cal.rules.threshold _ window before
       (reaction_least r.setting.cal.times run.accepted.times run.accepted.answers)
-      (ends_in_time r.setting start (SpanTo b r count) run.accepted listed is.follows
-      (proper_span keeps r run (listed_valid r.setting.fault listed) start count span is) later window before e))
+      (ends_in_time r.setting start (SpanTo b r count) run.accepted is.follows
+      (proper_span keeps r run (listed_valid r.setting.fault listed) start count span is)
+      (reacts_in_time r.setting run.accepted listed start) later window before e))
 
   pub records_end_bursts_at_once : RecordsEndBurstsAtOnce b
   records_end_bursts_at_once r run listed = each_drive b (RowsEndBurstsAtOnce r.setting.fault r.setting.cal.rules.torque
       r.setting.cal.rules.threshold) r
       (λ start count span is later window before e soon. few_rows r.setting.cal.rules.torque run.accepted.torque r.setting.cal.rules.threshold 1 window before
-      (omega arith) (ends_at_once r.setting start (SpanTo b r count) run.accepted listed is.follows
-      (proper_span keeps r run (listed_valid r.setting.fault listed) start count span is) later window before e soon))
+      (omega arith) (ends_at_once r.setting start (SpanTo b r count) run.accepted is.follows
+      (proper_span keeps r run (listed_valid r.setting.fault listed) start count span is) listed later window before e soon))

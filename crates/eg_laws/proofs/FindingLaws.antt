@@ -1,5 +1,5 @@
 -- No cut without a watch, by the ticks and the rows of a history in which the engine is driven.
-use Rattle.std.proofs.Common.{◌≡◌, ◌∙◌, refl, sym, ap, subst, ℕ, ◌+◌, ◌-◌, ◌≤◌, Bool, true, false, ◌&&◌, ◌||◌, List, [], ◌∷◌, length, inl, inr, Option, Some, None, max, arith}
+use Rattle.std.proofs.Common.{◌≡◌, ◌∙◌, refl, sym, ap, subst, ℕ, ◌+◌, ◌-◌, ◌≤◌, ◌<◌, Bool, true, false, ◌&&◌, ◌||◌, List, [], ◌∷◌, ◌++◌, length, inl, inr, Option, Some, None, max, arith}
 use Rattle.std.specs.Prelude.{IsTrue, Contains}
 use Rattle.std.specs.List.{list_any}
 use Rattle.std.proofs.lemmas.Bool.{or_cases, or_left, or_right, and_from, and_parts, and_right, le-leb, true≢false}
@@ -216,38 +216,39 @@ spoiling_opens_none (Disturb index mask) e = refl
 spoiling_opens_none Halt e = refl
 spoiling_opens_none _ e = absurd (true≢false (sym e))
 
--- a history that ends R ticks from the onset or later: the stages would be off at a tick more
-found_in_time : (s : Setting) (start : ℕ) (fault : Fault) → s.fault ≡ Some fault → IsAccepted s.cal → IsNoneOrValid s.fault →
-    spoils_answers fault.class ≡ true → (g : List Tick) → Follows s.fault start g →
-    max fault.onset start + reaction_of s.cal.times ≤ start + length g → Finds cutting (SpanRows s start g)
-found_in_time s start fault is accepted valid spoils [] follows late =
-    absurd (let some = reaction_least s.cal.times accepted.times accepted.answers in omega (arith, some, late))
-found_in_time s start fault is accepted valid spoils (y ∷ g) follows late =
-    finds_by_off s start x (y ∷ g) one_more spared
-    (onset_off s start (x ∷ y ∷ g) fault is accepted valid spoils one_more [] x (y ∷ g) refl late)
+-- Where the stages are off at each tick that comes `end` or later, and no fault opens a path by itself, a watch that
+-- cuts is found at one of the ticks before: else they would be on at a tick more.
+pub found_by_off : (s : Setting) (start : ℕ) (h : List Tick) → Follows s.fault start h →
+    ((tick : ℕ) → opens_by_itself s.fault tick ≡ false) → (end : ℕ) → start < end →
+    ((x : Tick) (g : List Tick) → Follows s.fault start (x ∷ g) → end ≤ start + length g → is_on_after s g x ≡ false) →
+    (later before : List Row) → SpanRows s start h ≡ later ++ before → start + length before ≡ end → Finds cutting before
+found_by_off s start h follows spared end some off later before e size = part (split s start h later before e)
   where
-    x : Tick
-    x = record { effects = effects s.fault (start + length (y ∷ g)); entry = y.entry }
+    by_ticks : (g : List Tick) → Follows s.fault start g → end ≤ start + length g → Finds cutting (SpanRows s start g)
+    by_ticks [] rest late = absurd (omega (arith, some, late))
+    by_ticks (y ∷ g) rest late = finds_by_off s start x (y ∷ g) one_more (spared (start + length (y ∷ g))) (off x (y ∷ g) one_more late)
+      where
+        x : Tick
+        x = record { effects = effects s.fault (start + length (y ∷ g)); entry = y.entry }
 
-    one_more : Follows s.fault start (x ∷ y ∷ g)
-    one_more = unfold Follows in (refl, unfold Follows in follows)
+        one_more : Follows s.fault start (x ∷ y ∷ g)
+        one_more = unfold Follows in (refl, unfold Follows in rest)
 
-    spared : opens_by_itself s.fault (start + length (y ∷ g)) ≡ false
-    spared = subst (λ f. opens_by_itself f (start + length (y ∷ g)) ≡ false) (sym is)
-        (unfold opens_by_itself in and_right _ (opens_path fault.class) (spoiling_opens_none fault.class spoils))
+    part : Split s start h later before → Finds cutting before
+    part parts = subst (Finds cutting) (sym parts.rows_are) (by_ticks parts.rest
+        (follows-end s.fault start parts.more parts.rest (subst (Follows s.fault start) parts.whole follows))
+        (let long = ap length parts.rows_are in let same = length-rows_after start (moments_of s parts.rest) in
+        let count = length-moments s parts.rest in omega (arith, size, long, same, count)))
 
 pub find_from_onset : (s : Setting) (start : ℕ) (h : List Tick) → IsAccepted s.cal → IsNoneOrValid s.fault →
     Follows s.fault start h → FindsFromOnset s.fault (reaction_of s.cal.times) start (SpanRows s start h)
 find_from_onset s start h accepted valid follows = go s.fault refl
   where
-    part : (fault : Fault) → s.fault ≡ Some fault → spoils_answers fault.class ≡ true → (later before : List Row) →
-        max fault.onset start + reaction_of s.cal.times ≤ start + length before → Split s start h later before → Finds cutting before
-    part fault is spoils later before late parts = subst (Finds cutting) (sym parts.rows_are)
-        (found_in_time s start fault is accepted valid spoils parts.rest
-        (follows-end s.fault start parts.more parts.rest (subst (Follows s.fault start) parts.whole follows))
-        (let long = ap length parts.rows_are in let same = length-rows_after start (moments_of s parts.rest) in
-        let count = length-moments s parts.rest in omega (arith, late, long, same, count)))
-
     go : (f : Option Fault) → s.fault ≡ f → FindsFromOnset f (reaction_of s.cal.times) start (SpanRows s start h)
     go None is = tt
-    go (Some fault) is = λ spoils later before e size. part fault is spoils later before (omega (arith, size)) (split s start h later before e)
+    go (Some fault) is = λ spoils. found_by_off s start h follows
+        (λ tick. ap (λ f. opens_by_itself f tick) is ∙ (unfold opens_by_itself in
+        and_right _ (opens_path fault.class) (spoiling_opens_none fault.class spoils)))
+        (max fault.onset start + reaction_of s.cal.times)
+        (let some = reaction_least s.cal.times accepted.times accepted.answers in omega (arith, some))
+        (λ x g rest late. onset_off s start (x ∷ g) fault is accepted valid spoils rest [] x g refl late)

@@ -22,6 +22,7 @@ use Rattle.eg_record.proofs.SpanLemmas.{span-not_nil, span-begins, span-goes_on}
 use Rattle.eg_record.proofs.ExcessLemmas.{first_index-now}
 use Rattle.eg_record.proofs.LastOnLemmas.{last_on-on, last_on-off}
 use Rattle.eg_model.specs.Engines.{BenchEngine, KeepsBenchLaws}
+use Rattle.eg_model.specs.Bench.{Run}
 use Rattle.eg_model.specs.Rows.{record_rows}
 use Rattle.eg_model.specs.Records.{ReactWithin, AreOff}
 use Rattle.eg_laws.specs.InTime.{IsWithin, IsInTime, RecordsReactInTime}
@@ -276,9 +277,14 @@ rows_in_time bound w threshold rows are first drives tests = all_in_time w thres
 
 -- ---- each record ----
 
-module _ {E : Type 0} {b : BenchEngine E} {Keeps : PlantParts → E → Type 0} (keeps : KeepsBenchLaws b Keeps) where
-  pub records_react_in_time : RecordsReactInTime b
-  records_react_in_time r run listed = rows_in_time (reaction_of r.setting.cal.times) r.setting.cal.rules.torque
-      r.setting.cal.rules.threshold (record_rows b r) (are_rows b r)
-      (first_begins (test_ticks_of r.setting.cal.times) (record_rows b r) (records_begin_in_turn b r)) (records_react keeps r run listed)
-      (records_test_unpowered b r)
+-- where the stages are off within R of a confirmed excess in each drive span
+pub spans_in_time : {E : Type 0} (b : BenchEngine E) (r : Run) →
+    EachDriveSpan (ReactWithin (reaction_of r.setting.cal.times) r.setting.cal.rules.torque r.setting.cal.rules.threshold) (record_rows b r) →
+    IsInTime (reaction_of r.setting.cal.times) (reactions_of r.setting.cal.rules.torque r.setting.cal.rules.threshold (record_rows b r))
+spans_in_time b r reacts = rows_in_time (reaction_of r.setting.cal.times) r.setting.cal.rules.torque
+    r.setting.cal.rules.threshold (record_rows b r) (are_rows b r)
+    (first_begins (test_ticks_of r.setting.cal.times) (record_rows b r) (records_begin_in_turn b r)) reacts
+    (records_test_unpowered b r)
+
+pub records_react_in_time : {E : Type 0} {b : BenchEngine E} {Keeps : PlantParts → E → Type 0} → KeepsBenchLaws b Keeps → RecordsReactInTime b
+records_react_in_time {b = b} keeps r run listed = spans_in_time b r (records_react keeps r run listed)

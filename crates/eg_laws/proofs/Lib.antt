@@ -25,6 +25,8 @@ pub mod LongestStretch
 pub mod BurstLaws
 pub mod StretchRows
 pub mod BurstRows
+pub mod MissedTickLaws
+pub mod MissedTickRecords
 pub mod BurstRuns
 pub mod KindLaws
 pub mod PeakLaws

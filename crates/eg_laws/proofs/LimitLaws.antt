@@ -21,7 +21,8 @@ use Rattle.eg_model.specs.Bench.{Run}
 use Rattle.eg_model.specs.Rows.{record_rows}
 use Rattle.eg_model.specs.Records.{IsRun, AreOff}
 use Rattle.eg_laws.proofs.FindingReports.{FirstBegins, first_begins, SpanOf, span_of}
-use Rattle.eg_laws.proofs.InTimeLaws.{records_react_in_time}
+use Rattle.eg_laws.proofs.InTimeLaws.{spans_in_time, records_react_in_time}
+use Rattle.eg_laws.proofs.MissedTickRecords.{records_cut_misses}
 use Rattle.eg_laws.proofs.KindLaws.{keeps_of}
 use Rattle.eg_model.proofs.PowerCycleLaws.{records_begin_in_turn}
 use Rattle.eg_model.proofs.RecordLaws.{records_test_unpowered}
@@ -153,6 +154,12 @@ module _ (engine : EngineKind) where
         (λ newer span older e is later stretch before parts.
         records_end_stretches_at_once (keeps_of engine) r run listed newer span older e is later stretch before parts
         (at_once_always r.setting.fault always _ _ _));
+    misses = λ keeps. (
+      spans_in_time (bench_of engine) r (λ newer span older e is.
+          (records_cut_misses (keeps_of engine) r run valid keeps newer span older e is).reacts),
+      stretch_within r run valid (longest_stretch r.setting.cal) (λ newer span older e is.
+          (records_cut_misses (keeps_of engine) r run valid keeps newer span older e is).stretches),
+    );
     peak =
         let shows = records_show_runs (keeps_of engine) r run valid in
         let below = all_below engine r.setting run.accepted (record_rows b r) shows.engine shows.permitted in

@@ -18,20 +18,19 @@ use Rattle.eg_fault.specs.declared.class.Fault.{Fault}
 use Rattle.eg_fault.specs.declared.paths.TheConstants.{PATH_2}
 use Rattle.eg_fault.proofs.ActingLemmas.{before_onset, from_onset}
 use Rattle.eg_fault.proofs.ClassLemmas.{others_obey_latches}
-use Rattle.eg_record.specs.declared.row.Row.{Row}
 use Rattle.eg_model.specs.History.{Setting, Tick, Drive, Moment}
 use Rattle.eg_model.specs.Answers.{is_sent, mark_at, with_answer, answers_in}
 use Rattle.eg_model.specs.Paths.{latch2}
 use Rattle.eg_model.specs.Moments.{moment, moments_of}
 use Rattle.eg_model.specs.Premises.{Follows, is_on_after}
-use Rattle.eg_laws.specs.Findings.{cutting, Finds, opens_by_itself}
+use Rattle.eg_laws.specs.Findings.{opens_by_itself}
 use Rattle.eg_laws.specs.Coverage.{sends_outside, IsCutInTime, MovedAreCut}
 use Rattle.eg_model.proofs.PeriodLemmas.{at_place, period_room, counts_from, enough_periods}
 use Rattle.eg_model.proofs.TickLemmas.{length-moments, fields}
 use Rattle.eg_model.proofs.Silence.{EachAnswer, TrueRun, period_least, send_within, verdict_some, wrongs, runs_more, run_confirms, longer_run, enough_weight, opens_when_confirmed, off_by_latch2}
-use Rattle.eg_model.proofs.SpanRows.{follows-end, rows_after, length-rows_after, SpanRows, RowAfter, row_on, row_tick, all_rows, Split, split}
+use Rattle.eg_model.proofs.SpanRows.{follows-end, SpanRows, RowAfter, row_tick, all_rows}
 use Rattle.eg_model.proofs.SpanLaws.{reaction_least}
-use Rattle.eg_laws.proofs.FindingLaws.{find_before_off}
+use Rattle.eg_laws.proofs.FindingLaws.{found_by_off}
 use Rattle.eg_laws.proofs.CoverageLaws.{open_at}
 
 -- ---- the class ----
@@ -260,29 +259,16 @@ module _ (s : Setting) (accepted : IsAccepted s.cal) (f : Fault) (is : s.fault �
   opened h follows late = moved_opens s accepted (max f.onset start - start) told.offset told.out h
       (moved_of f told.offset told.is start h (subst (λ g. Follows g start h) is follows)) (omega (arith, late))
 
-  -- the stages would be off at a tick more
-  found_by : (g : List Tick) → Follows s.fault start g → max f.onset start + bound ≤ start + length g →
-      Finds cutting (SpanRows s start g)
-  found_by [] follows late =
-      absurd (let some = reaction_least s.cal.times accepted.times accepted.answers in omega (arith, some, late))
-  found_by (y ∷ g) follows late = find_before_off s start (x ∷ y ∷ g) one_more [] (SpanRows s start (y ∷ g))
-      (RowAfter s start x (y ∷ g))
-      (unfold rows_after moments_of in refl) (row_on s start x (y ∷ g) ∙ (unfold is_on_after in off)) spared
-    where
-      x : Tick
-      x = record { effects = effects s.fault (start + length (y ∷ g)); entry = y.entry }
+  spared : (tick : ℕ) → opens_by_itself s.fault tick ≡ false
+  spared tick = ap (λ k. opens_by_itself k tick) is ∙ (unfold opens_by_itself in
+      and_right _ (opens_path f.class) (ap opens_path told.is ∙ (unfold opens_path in refl)))
 
-      one_more : Follows s.fault start (x ∷ y ∷ g)
-      one_more = unfold Follows in (refl, unfold Follows in follows)
-
-      off : (moment s x.effects x.entry (moments_of s (y ∷ g))).on ≡ false
-      off = off_by_latch2 s x.effects x.entry (moments_of s (y ∷ g))
-          (ap (λ k. (effects k (start + length (y ∷ g))).conducts PATH_2 true) is
-          ∙ others_obey_latches f (start + length (y ∷ g)) PATH_2 obeys) (opened (y ∷ g) follows late)
-
-      spared : opens_by_itself s.fault (RowAfter s start x (y ∷ g)).tick ≡ false
-      spared = ap (λ k. opens_by_itself k (RowAfter s start x (y ∷ g)).tick) is ∙ (unfold opens_by_itself in
-          and_right _ (opens_path f.class) (ap opens_path told.is ∙ (unfold opens_path in refl)))
+  off_now : (x : Tick) (g : List Tick) → Follows s.fault start (x ∷ g) → max f.onset start + bound ≤ start + length g →
+      is_on_after s g x ≡ false
+  unfolding is_on_after Follows
+  off_now x g follows late = off_by_latch2 s x.effects x.entry (moments_of s g)
+      (ap (λ (y : Effects). y.conducts PATH_2 true) (follows.0 ∙ ap (λ k. effects k (start + length g)) is)
+      ∙ others_obey_latches f (start + length g) PATH_2 obeys) (opened g follows.1 late)
 
   open_now : (x : Tick) (before : List Tick) → Follows s.fault start (x ∷ before) →
       max f.onset start + bound ≤ start + length before → (RowAfter s start x before).path2 ≡ false
@@ -293,15 +279,9 @@ module _ (s : Setting) (accepted : IsAccepted s.cal) (f : Fault) (is : s.fault �
     opens = all_rows (λ row. max f.onset start + bound ≤ row.tick → row.path2 ≡ false) s start h (λ newer x before whole late.
         open_now x before (follows-end s.fault start newer (x ∷ before) (subst (Follows s.fault start) whole follows))
         (subst (λ n. max f.onset start + bound ≤ n) (row_tick s start x before) late));
-    found = λ later before e size. in_part later before size (split s start h later before e);
+    found = found_by_off s start h follows spared (max f.onset start + bound)
+        (let some = reaction_least s.cal.times accepted.times accepted.answers in omega (arith, some)) off_now;
   }
-    where
-      in_part : (later before : List Row) → start + length before ≡ max f.onset start + bound → Split s start h later before →
-          Finds cutting before
-      in_part later before size parts = subst (Finds cutting) (sym parts.rows_are) (found_by parts.rest
-          (follows-end s.fault start parts.more parts.rest (subst (Follows s.fault start) parts.whole follows))
-          (let long = ap length parts.rows_are in let same = length-rows_after start (moments_of s parts.rest) in
-          let count = length-moments s parts.rest in omega (arith, size, long, same, count)))
 
 pub moved_are_cut : (s : Setting) → IsAccepted s.cal → (start : ℕ) (h : List Tick) → Follows s.fault start h →
     MovedAreCut s.cal.times s.fault (reaction_of s.cal.times) start (SpanRows s start h)

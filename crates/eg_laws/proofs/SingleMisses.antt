@@ -12,7 +12,7 @@ use Rattle.eg_model.specs.Answers.{is_whole}
 use Rattle.eg_laws.specs.Availability.{misses_tick, SingleMissesAreSpaced}
 use Rattle.eg_model.proofs.SharpCutLaw.{whole_plain}
 
-whole_lapse : (out : Bool) → is_whole (record no_effects { ran = λ i. not out }) ≡ not out
+pub whole_lapse : (out : Bool) → is_whole (record no_effects { ran = λ i. not out }) ≡ not out
 unfolding is_whole modules modules_before_react no_effects
 whole_lapse true = refl
 whole_lapse false = refl
@@ -52,7 +52,7 @@ once onset after first second a b less = let p = a.place in let q = b.place in l
     omega (arith, p, q, l, m, less)
 
 -- two numbers of one place lie a whole turn apart
-turn_apart : (u v n : ℕ) → u % suc n ≡ v % suc n → u < v → u + suc n ≤ v
+pub turn_apart : (u v n : ℕ) → u % suc n ≡ v % suc n → u < v → u + suc n ≤ v
 turn_apart u v n same less = more (u / suc n) (v / suc n) (v % suc n) (omega (arith, same)) (omega arith)
   where
     further : (q k p r : ℕ) → q * p + r < k * p + r → q < k

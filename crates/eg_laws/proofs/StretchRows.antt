@@ -13,7 +13,8 @@ use Rattle.eg_fault.proofs.ActingLemmas.{listed_valid}
 use Rattle.eg_record.specs.declared.row.Row.{Row}
 use Rattle.eg_record.specs.Excess.{true_excess}
 use Rattle.eg_model.specs.History.{Setting, Tick}
-use Rattle.eg_model.specs.Premises.{AreProper, Follows, true_excesses}
+use Rattle.eg_model.specs.Premises.{AreProper, Follows, true_excesses, IsExcessConfirmed}
+use Rattle.eg_model.specs.Reaction.{OffFrom}
 use Rattle.eg_model.specs.Engines.{BenchEngine, KeepsBenchLaws}
 use Rattle.eg_values.specs.Excess.{ticks_to_confirm, longest_stretch}
 use Rattle.eg_laws.specs.Stretches.{IsAtOnceWhenConfirmed, RowsEndStretches, RowsEndStretchesAtOnce, RecordsEndStretches, RecordsEndStretchesAtOnce}
@@ -36,7 +37,7 @@ all_set bit (row ∷ stretch) all = and_from _ _ (All-head (λ r. bit r ≡ true
 
 -- ---- the rows of a drive span ----
 
-module _ (s : Setting) (start : ℕ) (h : List Tick) (accepted : IsAccepted s.cal) (listed : IsListed s.fault)
+module _ (s : Setting) (start : ℕ) (h : List Tick) (accepted : IsAccepted s.cal)
     (follows : Follows s.fault start h) (proper : AreProper s h) where
   abbrev bit : Row → Bool
   bit = true_excess s.cal.rules.threshold
@@ -56,45 +57,48 @@ module _ (s : Setting) (start : ℕ) (h : List Tick) (accepted : IsAccepted s.ca
       bits : map bit (part ++ before) ≡ true_excesses s cut.rest
       bits = ap (map bit) cut.rows_are ∙ bits_after bit (true_unnumbered s.cal.rules.threshold) s start cut.rest
 
-  -- with no fault or a listed one
-  pub ends_in_time : (later part before : List Row) → SpanRows s start h ≡ later ++ (part ++ before) →
-      Ends s.cal.rules.torque (reaction_of s.cal.times) (map bit part ++ map bit before)
-  ends_in_time later part before e = rows_end (reaction_of s.cal.times) later part before e
-      (λ g bits front k whole confirmed. reacts_in_time s accepted listed start k confirmed)
+  -- where the stages are off from R ticks after each tick by which the excess is confirmed
+  module _ (law : (g : List Tick) → IsExcessConfirmed s g → OffFrom s start g (reaction_of s.cal.times)) where
+    pub ends_in_time : (later part before : List Row) → SpanRows s start h ≡ later ++ (part ++ before) →
+        Ends s.cal.rules.torque (reaction_of s.cal.times) (map bit part ++ map bit before)
+    ends_in_time later part before e = rows_end (reaction_of s.cal.times) later part before e
+        (λ g bits front k whole confirmed. law k confirmed)
 
-  -- and where the reaction is at once when the excess is confirmed
-  pub ends_at_once : (later part before : List Row) → SpanRows s start h ≡ later ++ (part ++ before) →
-      IsAtOnceWhenConfirmed s.fault s.cal.rules.torque start (map bit (part ++ before)) →
-      Ends s.cal.rules.torque 1 (map bit part ++ map bit before)
-  ends_at_once later part before e soon = rows_end 1 later part before e
-      (λ g bits front k whole confirmed. off_at_once s accepted listed start front k
-      (subst (IsAtOnceWhenConfirmed s.fault s.cal.rules.torque start) (bits ∙ ap (true_excesses s) whole) soon) confirmed)
+    pub rows_end_stretches : RowsEndStretches s.cal.rules.threshold (longest_stretch s.cal) start (SpanRows s start h)
+    unfolding longest_stretch ticks_to_confirm
+    rows_end_stretches later stretch before e excess = subst (λ n. n ≤ longest_stretch s.cal) (length-map stretch bit)
+        (ends s.cal.rules.torque accepted.torque (reaction_of s.cal.times) (map bit stretch) (map bit before)
+        (reaction_least s.cal.times accepted.times accepted.answers) (ends_in_time later stretch before e) (all_set bit stretch excess))
 
-  rows_end_stretches : RowsEndStretches s.cal.rules.threshold (longest_stretch s.cal) start (SpanRows s start h)
-  unfolding longest_stretch ticks_to_confirm
-  rows_end_stretches later stretch before e excess = subst (λ n. n ≤ longest_stretch s.cal) (length-map stretch bit)
-      (ends s.cal.rules.torque accepted.torque (reaction_of s.cal.times) (map bit stretch) (map bit before)
-      (reaction_least s.cal.times accepted.times accepted.answers) (ends_in_time later stretch before e) (all_set bit stretch excess))
+  -- with no fault or a listed one, where the reaction is at once when the excess is confirmed
+  module _ (listed : IsListed s.fault) where
+    pub ends_at_once : (later part before : List Row) → SpanRows s start h ≡ later ++ (part ++ before) →
+        IsAtOnceWhenConfirmed s.fault s.cal.rules.torque start (map bit (part ++ before)) →
+        Ends s.cal.rules.torque 1 (map bit part ++ map bit before)
+    ends_at_once later part before e soon = rows_end 1 later part before e
+        (λ g bits front k whole confirmed. off_at_once s accepted listed start front k
+        (subst (IsAtOnceWhenConfirmed s.fault s.cal.rules.torque start) (bits ∙ ap (true_excesses s) whole) soon) confirmed)
 
-  rows_end_stretches_at_once : RowsEndStretchesAtOnce s.fault s.cal.rules.torque s.cal.rules.threshold (ticks_to_confirm s.cal) start
-      (SpanRows s start h)
-  unfolding ticks_to_confirm
-  rows_end_stretches_at_once later stretch before e soon excess = subst (λ n. n ≤ ticks_to_confirm s.cal) (length-map stretch bit)
-      (let short = ends s.cal.rules.torque accepted.torque 1 (map bit stretch) (map bit before) (omega arith)
-      (ends_at_once later stretch before e soon) (all_set bit stretch excess) in
-      let a = some s.cal.rules.torque accepted.torque in omega (arith, short, a))
+    rows_end_stretches_at_once : RowsEndStretchesAtOnce s.fault s.cal.rules.torque s.cal.rules.threshold (ticks_to_confirm s.cal) start
+        (SpanRows s start h)
+    unfolding ticks_to_confirm
+    rows_end_stretches_at_once later stretch before e soon excess = subst (λ n. n ≤ ticks_to_confirm s.cal) (length-map stretch bit)
+        (let short = ends s.cal.rules.torque accepted.torque 1 (map bit stretch) (map bit before) (omega arith)
+        (ends_at_once later stretch before e soon) (all_set bit stretch excess) in
+        let a = some s.cal.rules.torque accepted.torque in omega (arith, short, a))
 
 module _ {E : Type 0} {b : BenchEngine E} {Keeps : PlantParts → E → Type 0} (keeps : KeepsBenchLaws b Keeps) where
   pub records_end_stretches : RecordsEndStretches b
   records_end_stretches r run listed = each_drive b (RowsEndStretches r.setting.cal.rules.threshold (longest_stretch r.setting.cal)) r
-      (λ start count span is. rows_end_stretches r.setting start (SpanTo b r count) run.accepted listed is.follows
-      (proper_span keeps r run (listed_valid r.setting.fault listed) start count span is))
+      (λ start count span is. rows_end_stretches r.setting start (SpanTo b r count) run.accepted is.follows
+      (proper_span keeps r run (listed_valid r.setting.fault listed) start count span is)
+      (reacts_in_time r.setting run.accepted listed start))
 
   pub records_end_stretches_at_once : RecordsEndStretchesAtOnce b
   records_end_stretches_at_once r run listed = each_drive b (RowsEndStretchesAtOnce r.setting.fault r.setting.cal.rules.torque r.setting.cal.rules.threshold
       (ticks_to_confirm r.setting.cal)) r
-      (λ start count span is. rows_end_stretches_at_once r.setting start (SpanTo b r count) run.accepted listed is.follows
-      (proper_span keeps r run (listed_valid r.setting.fault listed) start count span is))
+      (λ start count span is. rows_end_stretches_at_once r.setting start (SpanTo b r count) run.accepted is.follows
+      (proper_span keeps r run (listed_valid r.setting.fault listed) start count span is) listed)
 
 -- ---- bursts ----
 

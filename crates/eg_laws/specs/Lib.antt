@@ -12,6 +12,7 @@ pub mod FaultyBursts
 pub mod Seeing
 pub mod Paths
 pub mod Availability
+pub mod MissedTicks
 pub mod WeightLimits
 pub mod PairsFound
 pub mod SharpUnder

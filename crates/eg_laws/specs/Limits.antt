@@ -12,6 +12,7 @@ use Rattle.eg_record.specs.Reactions.{reactions_of}
 use Rattle.eg_model.specs.History.{Setting}
 use Rattle.eg_model.specs.Reaction.{is_at_once}
 use Rattle.eg_laws.specs.InTime.{IsInTime}
+use Rattle.eg_laws.specs.MissedTicks.{KeepsMissing}
 use Rattle.eg_model.specs.Engines.{BenchEngine}
 use Rattle.eg_model.specs.Bench.{Run}
 use Rattle.eg_model.specs.Rows.{record_rows}
@@ -29,6 +30,10 @@ pub record KeepsLimits (s : Setting) (facts : Facts) (reactions : Reactions) : T
   pub reaction : IsListed s.fault → IsInTime (reaction_of s.cal.times) reactions
   pub stretch : IsListed s.fault → facts.stretch ≤ longest_stretch s.cal
   pub at_once : IsListed s.fault → IsAlwaysAtOnce s.fault → facts.stretch ≤ ticks_to_confirm s.cal
+  -- The first two hold as well where level 2, once it has missed a tick, misses at least one of any `period`
+  -- ticks in a row.
+  pub misses : KeepsMissing s.fault s.cal.times.period →
+      IsInTime (reaction_of s.cal.times) reactions × (facts.stretch ≤ longest_stretch s.cal)
   -- and under each fault no torque lies further above what is permitted and the threshold than it can
   pub peak : facts.peak ≤ greatest_excess s.cal
 

@@ -1,7 +1,8 @@
 -- Runs under lapses, computed from the definitions.
 use Rattle.std.proofs.Common.{◌≡◌, ◌-◌, ◌*◌, ◌<◌, true, false, [], ◌∷◌, ◌++◌, map, filter, replicate, take, length, Some, None, refl, sym, subst, arith}
 use Rattle.std.specs.List.{list_all}
-use Rattle.eg_answer.specs.Times.{feeds_to_confirm, periods_to_confirm, worth_of, rounds_to_confirm, lapse_periods, lapse_bound_of}
+use Rattle.eg_answer.specs.Times.{reaction_of, feeds_to_confirm, periods_to_confirm, worth_of, rounds_to_confirm, lapse_periods, lapse_bound_of}
+use Rattle.eg_answer.specs.declared.marks.AnswerMark.TheVariants.{Good}
 use Rattle.eg_answer.specs.declared.marks.Verdict.TheVariants.{Wrong}
 use Rattle.eg_record.specs.declared.watch.Watch.TheVariants.{Answers}
 use Rattle.eg_record.specs.Excess.{true_excess}
@@ -13,7 +14,9 @@ use Rattle.eg_answer.specs.Formulas as formulas
 use Rattle.eg_model.specs.Examples.{answers_of, verdicts_of, stages_of, moments_in_time, report_on, reported}
 use Rattle.eg_model.specs.Engines.{gasoline}
 use Rattle.eg_model.specs.Records.{rows_to, ExceedLast}
-use Rattle.eg_runs.specs.WorkedLapses.{lapsing_run, slow_parts, standing_run, excesses_of}
+use Rattle.eg_runs.specs.WorkedLapses.{lapsing_run, dead_run, slow_parts, standing_run, excesses_of}
+use Rattle.eg_laws.specs.MissedTicks.{KeepsMissing}
+use Rattle.eg_laws.proofs.MissedTickRecords.{lapses_keep_missing}
 use Rattle.eg_model.proofs.WholeModel.{whole_model}
 
 pub lapsing : report_on lapsing_run ≡ reported (Some (Answers, 29)) (Some 30) None (Some 9)
@@ -47,7 +50,26 @@ pub lapsing-stages : stages_of lapsing_run ≡ replicate 30 true ++ replicate 30
 unfolding whole_model
 lapsing-stages = refl
 
--- its calibration's numbers: four whole periods, and 50 ticks
+-- ---- a level 2 that never runs again ----
+
+pub dead-keeps : KeepsMissing dead_run.setting.fault reference_parts.times.period
+dead-keeps = lapses_keep_missing 6 (0 ∷ []) 1 reference_parts.times.period (omega arith) (omega arith)
+
+pub dead : report_on dead_run ≡ reported (Some (Answers, 39)) (Some 40) None (Some 9)
+unfolding whole_model
+dead = refl
+
+pub dead-answers : answers_of dead_run ≡ (5, Good) ∷ []
+unfolding whole_model
+dead-answers = refl
+
+pub reference-reaction : reaction_of reference_parts.times ≡ 34
+unfolding feeds_to_confirm reaction_of
+reference-reaction = refl
+
+-- ---- excess that stands ----
+
+-- the reference calibration's numbers: four whole periods, and 50 ticks
 reference-periods : lapse_periods reference_parts.rules.torque reference_parts.times ≡ 4
 unfolding feeds_to_confirm periods_to_confirm worth_of rounds_to_confirm lapse_periods
 reference-periods = refl
@@ -55,8 +77,6 @@ reference-periods = refl
 pub reference-bound : lapse_bound_of reference_parts.rules.torque reference_parts.times ≡ 50
 unfolding feeds_to_confirm periods_to_confirm worth_of rounds_to_confirm lapse_periods lapse_bound_of
 reference-bound = refl
-
--- ---- excess that stands ----
 
 -- the answers are right by both, since the torque's weights aren't in them
 pub slow-accepted : IsAccepted reference_parts → IsAccepted slow_parts

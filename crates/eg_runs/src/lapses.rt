@@ -1,6 +1,7 @@
 // Runs under lapses, worked out from the definitions.
 ghost use Rattle.std.specs.Prelude.{◌≡◌, ◌*◌, [], ◌∷◌, ◌++◌, map, replicate, true, false, Some, None};
-ghost use Rattle.eg_answer.specs.Times.{lapse_periods, lapse_bound_of, HasMissSpacing, miss_spacing_of};
+ghost use Rattle.eg_answer.specs.Times.{reaction_of, lapse_periods, lapse_bound_of, HasMissSpacing, miss_spacing_of};
+ghost use Rattle.eg_answer.specs.declared.marks.AnswerMark.TheVariants.{Good};
 ghost use Rattle.eg_values.specs.Reference.{reference_parts};
 ghost use Rattle.eg_values.specs.Calibration.{IsAccepted};
 ghost use Rattle.eg_values.specs.Excess.{BoundsLapses};
@@ -9,8 +10,9 @@ ghost use Rattle.eg_record.specs.Excess.{full_excess};
 ghost use Rattle.eg_model.specs.Engines.{gasoline};
 ghost use Rattle.eg_model.specs.Records.{rows_to, ExceedLast};
 ghost use Rattle.eg_model.specs.Examples.{full, rows_in_time, report_on, reported, answers_of, stages_of};
-ghost use Rattle.eg_runs.specs.WorkedLapses.{lapsing_run, slow_parts, standing_run, excesses_of};
+ghost use Rattle.eg_runs.specs.WorkedLapses.{lapsing_run, dead_run, slow_parts, standing_run, excesses_of};
 ghost use Rattle.eg_laws.specs.Availability.{IsSpacedLapse};
+ghost use Rattle.eg_laws.specs.MissedTicks.{KeepsMissing};
 ghost use Rattle.eg_runs.specs.WorkedMisses.{missed_from, sevens, missed_run, single_miss, gap_run, reported_with};
 ghost use Rattle.eg_runs.specs.Ramps.{ramped_run, raised_once};
 
@@ -23,6 +25,17 @@ pub fn a_run_with_lapses_is_cut()
     ensures answers { answers_of lapsing_run ≡ [] }
     ensures stages { stages_of lapsing_run ≡ replicate 30 true ++ replicate 30 false }
     ensures bound { lapse_bound_of reference_parts.rules.torque reference_parts.times ≡ 50 }
+{}
+
+/// A level 2 that never runs again (docs/CONCEPT.md, "Lapses"): it misses each tick from tick 6 on, and the
+/// last good answer came at tick 5. Level 1 opens the throttle, and the excess is confirmed at tick 9. The
+/// wrong answers are found at tick 39, and the stages are off from tick 40 on, R ticks after the onset and
+/// not sooner. It does nothing when it runs.
+pub fn a_dead_level_2_is_cut()
+    ensures keeps { KeepsMissing dead_run.setting.fault reference_parts.times.period }
+    ensures line { report_on dead_run ≡ reported (Some (Answers, 39)) (Some 40) None (Some 9) }
+    ensures answers { answers_of dead_run ≡ (5, Good) ∷ [] }
+    ensures bound { reaction_of reference_parts.times ≡ 34 }
 {}
 
 /// Excess that stands for `lapse_periods` whole periods, and is then cut (docs/CONCEPT.md, "Lapses"): by a

@@ -37,7 +37,7 @@ pub use hidden_runs::{
     skips_in_short_spans,
 };
 pub use lapses::{
-    a_miss_cuts_on_the_ramp, a_run_with_lapses_is_cut, missed_gap_is_cut,
+    a_dead_level_2_is_cut, a_miss_cuts_on_the_ramp, a_run_with_lapses_is_cut, missed_gap_is_cut,
     near_misses_cut_and_far_ones_do_not, standing_excess_run,
 };
 pub use outputs::{full_in_two_ways, outputs_act_a_tick_later};
