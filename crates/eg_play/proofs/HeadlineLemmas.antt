@@ -21,6 +21,7 @@ use Rattle.eg_laws.proofs.KindLaws.{keeps_of, shows_one_load_of}
 use Rattle.eg_model.proofs.RecordLaws.{records_react, records_react_at_once, records_cut_sharply, records_cut_sharply_before, records_cut_from_onset, records_cut_standing_excess, records_have_short_excess, records_test_unpowered, records_pass_tests}
 use Rattle.eg_laws.proofs.StretchRows.{records_end_stretches, records_end_stretches_at_once, records_are_sparse}
 use Rattle.eg_laws.proofs.AvailabilityRecords.{records_stay_available}
+use Rattle.eg_laws.proofs.MissedTickRecords.{records_cut_misses, records_cut_for_good}
 use Rattle.eg_laws.proofs.LimitLaws.{records_keep_limits}
 use Rattle.eg_laws.proofs.WordLaws.{peak_is_greatest, stretch_is_longest, reaction_is_longest}
 use Rattle.eg_laws.proofs.FindingRecords.{records_find_before_off, records_find_failures, records_find_from_onset, records_tell_flips, records_find_sharply}
@@ -97,6 +98,8 @@ headline r run valid =
       tells_flips = records_tell_flips (bench_of r.engine) r.run;
       lapses = records_cut_standing_excess keeps r.run run valid;
       short = records_have_short_excess keeps r.run run valid;
+      misses = records_cut_misses keeps r.run run valid;
+      for_good = records_cut_for_good (bench_of r.engine) r.run run;
       stretches = records_end_stretches keeps r.run run;
       stretches_at_once = records_end_stretches_at_once keeps r.run run;
       bursts = records_are_sparse (bench_of r.engine) r.run run;

@@ -3,7 +3,7 @@
 -- It is said of one run of either engine with its power cycles; its rows stand newest first. That no image
 -- changes a protected word is said of each slice: field `outside` of `IsSlice`, which `eg_host::Host::slice`
 -- keeps. That level 1 acts by its two outputs alone is said here.
-use Rattle.std.specs.Prelude.{◌≡◌, ℕ, List, All, Option, None}
+use Rattle.std.specs.Prelude.{◌≡◌, ℕ, List, All, Option, Some, None}
 use Rattle.eg_num.specs.Drive.{DriveRow}
 use Rattle.eg_answer.specs.Times.{reaction_of, test_ticks_of}
 use Rattle.eg_values.specs.Excess.{BoundsLapses, ticks_to_confirm, longest_stretch}
@@ -27,6 +27,7 @@ use Rattle.eg_model.specs.Outputs.{with_level1, ActByOutputs}
 use Rattle.eg_laws.specs.Stretches.{RowsEndStretches, RowsEndStretchesAtOnce}
 use Rattle.eg_laws.specs.Bursts.{RowsAreSparse}
 use Rattle.eg_laws.specs.Availability.{AvailableIfSpaced}
+use Rattle.eg_laws.specs.MissedTicks.{KeepsMissing, never_again, CutForGood, MissesAreCut}
 use Rattle.eg_model.specs.EngineRuns.{EngineRun, rows_of_run, report_of_run}
 
 -- What the headline says of the record of a run, by its engine, its setting, its drive, its rows, level 1's
@@ -84,6 +85,13 @@ pub record Headline {E : Type 0} (b : BenchEngine E) (s : Setting) (drive : List
       EachDriveSpan (CutStandingExcess s.cal) rows
   pub short : BoundsLapses s.cal → IsLapse s.fault →
       EachDriveSpan (ExcessIsShort s.cal) rows
+  -- Where level 2, once it has missed a tick, misses at least one of any `period` ticks in a row, R is kept
+  -- as with a listed fault; and from R ticks after each missed tick of the span the stages are off, whatever
+  -- the torque. So where it never runs again they are off from R ticks after the onset, or after the begin of
+  -- the drive span if that is later.
+  pub misses : KeepsMissing s.fault s.cal.times.period → EachDriveSpan (MissesAreCut s) rows
+  pub for_good : (onset : ℕ) → s.fault ≡ Some (never_again onset) →
+      EachDriveSpan (CutForGood onset (reaction_of s.cal.times)) rows
   -- How long an excess lasts: with no fault or a listed one each stretch of true excess in a drive span has
   -- at most D - 1 + R rows, where D feeds confirm it; and at most D if the reaction is at once when it is
   -- confirmed, as without a fault.

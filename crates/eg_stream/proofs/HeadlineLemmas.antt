@@ -31,8 +31,10 @@ use Rattle.eg_laws.proofs.FindingRecords.{records_find_before_off, records_find_
 use Rattle.eg_laws.specs.Stretches.{RowsEndStretches, RowsEndStretchesAtOnce}
 use Rattle.eg_laws.specs.Bursts.{RowsAreSparse}
 use Rattle.eg_laws.specs.Availability.{AvailableIfSpaced}
+use Rattle.eg_laws.specs.MissedTicks.{CutForGood, MissesAreCut}
 use Rattle.eg_laws.proofs.StretchRows.{records_end_stretches, records_end_stretches_at_once, records_are_sparse}
 use Rattle.eg_laws.proofs.AvailabilityRecords.{records_stay_available}
+use Rattle.eg_laws.proofs.MissedTickRecords.{records_cut_misses, records_cut_for_good}
 use Rattle.eg_stream.specs.Coupled.{CoupledUnit, AreTaken, entry_by, entries_by, coupled_moments, coupled_rows}
 use Rattle.eg_stream.specs.Headline.{ShowsAnswers, SharpHeadline, CoupledHeadline, HasOneLoad, ActsByOutputs, KeepsCoupledHeadline}
 use Rattle.eg_stream.proofs.TakenLemmas.{AreLawful, taken-are-lawful, taken-proper_run}
@@ -140,6 +142,9 @@ module _ (unit : CoupledUnit) (answers : List PartnerAnswer) (accepted : IsAccep
     tells_flips = to (TellsFlips s.fault) (records_tell_flips (b as_told shown) r);
     lapses = λ bound lapse. to (EachDriveSpan (CutStandingExcess s.cal)) (records_cut_standing_excess keeps r run valid bound lapse);
     short = λ bound lapse. to (EachDriveSpan (ExcessIsShort s.cal)) (records_have_short_excess keeps r run valid bound lapse);
+    misses = λ keeping. to (EachDriveSpan (MissesAreCut s)) (records_cut_misses keeps r run valid keeping);
+    for_good = λ onset never. to (EachDriveSpan (CutForGood onset (reaction_of s.cal.times)))
+        (records_cut_for_good (b as_told shown) r run onset never);
     stretches = λ listed. to (EachDriveSpan (RowsEndStretches s.cal.rules.threshold (longest_stretch s.cal)))
         (records_end_stretches keeps r run listed);
     stretches_at_once = λ listed. to (EachDriveSpan (RowsEndStretchesAtOnce s.fault s.cal.rules.torque s.cal.rules.threshold (ticks_to_confirm s.cal)))

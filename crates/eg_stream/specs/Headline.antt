@@ -1,7 +1,7 @@
 -- The headline of a coupled run: whatever the partner's engine does, its rows keep the laws that hold of
 -- every engine. It is said of answers that were taken, and nothing else is asked of the partner. Four laws
 -- hold only if the engine showed one load twice at each tick (`sharp`). Rows stand newest first.
-use Rattle.std.specs.Prelude.{◌≡◌, true, false, List, [], ◌∷◌, All, map, length, None}
+use Rattle.std.specs.Prelude.{◌≡◌, ℕ, true, false, List, [], ◌∷◌, All, map, length, Some, None}
 use Rattle.eg_answer.specs.Times.{reaction_of, test_ticks_of}
 use Rattle.eg_values.specs.Excess.{BoundsLapses, ticks_to_confirm, longest_stretch}
 use Rattle.eg_fault.specs.Faults.{effects, IsListed}
@@ -25,6 +25,7 @@ use Rattle.eg_model.specs.Outputs.{running, without_outputs}
 use Rattle.eg_laws.specs.Stretches.{RowsEndStretches, RowsEndStretchesAtOnce}
 use Rattle.eg_laws.specs.Bursts.{RowsAreSparse}
 use Rattle.eg_laws.specs.Availability.{AvailableIfSpaced}
+use Rattle.eg_laws.specs.MissedTicks.{KeepsMissing, never_again, CutForGood, MissesAreCut}
 use Rattle.eg_stream.specs.Coupled.{CoupledUnit, entry_by, entries_by, coupled_rows}
 
 -- What holds besides if the engine showed one load twice at each tick.
@@ -65,6 +66,11 @@ pub record CoupledHeadline (s : Setting) (rows : List Row) (one_load : Type 0) :
       EachDriveSpan (CutStandingExcess s.cal) rows
   pub short : BoundsLapses s.cal → IsLapse s.fault →
       EachDriveSpan (ExcessIsShort s.cal) rows
+  -- where level 2 keeps missing ticks R is kept, and from R ticks after each missed one the stages are off;
+  -- so they are from R ticks after the onset of a lapse by which it never runs again
+  pub misses : KeepsMissing s.fault s.cal.times.period → EachDriveSpan (MissesAreCut s) rows
+  pub for_good : (onset : ℕ) → s.fault ≡ Some (never_again onset) →
+      EachDriveSpan (CutForGood onset (reaction_of s.cal.times)) rows
   -- how long an excess lasts, and how often it may come again
   pub stretches : IsListed s.fault → EachDriveSpan (RowsEndStretches s.cal.rules.threshold
       (longest_stretch s.cal)) rows
