@@ -32,6 +32,7 @@ pub struct Level1 {
     host: Host,
     /// A slice of more steps than these changes nothing.
     rest: u16,
+    /// How many more slices of the span may be looked at in vain for a rest.
     tries: u8,
     program: Program,
 }
