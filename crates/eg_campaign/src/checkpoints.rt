@@ -2,7 +2,6 @@
 ghost use Rattle.std.specs.Prelude.{◌≡◌, ℕ, ◌+◌, ◌*◌, ◌%◌, ◌/◌, ◌≤◌, ◌<◌, Bool, List, slice_index_or, false, None, length, reverse, IfOk, OnOk, IsTrue};
 ghost use Rattle.std.specs.Option.{option_copied};
 ghost use Rattle.eg_fault.specs.Faults.{IsNoneOrValid};
-ghost use Rattle.eg_values.specs.Calibration.{CalibrationParts};
 ghost use Rattle.eg_model.specs.Bench.{Run};
 ghost use Rattle.eg_model.specs.Branching.{BeginsFrom};
 ghost use Rattle.eg_model.specs.Rows.{record_rows};

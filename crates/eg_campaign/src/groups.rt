@@ -1,19 +1,17 @@
-// The runs of a campaign, played group by group.
-ghost use Rattle.std.specs.Prelude.{◌≡◌, ◌<◌, All, map, length, replicate, slice_index_or, IfOk, OnOk, None};
+// A group of runs, which share what comes before their faults.
+ghost use Rattle.std.specs.Prelude.{◌≡◌, ◌<◌, All, map, length, slice_index_or, OnOk};
 ghost use Rattle.eg_record.specs.declared.run_facts.RunFacts.{RunFacts};
 ghost use Rattle.eg_tick.specs.Counting.{AreCounted};
 ghost use Rattle.eg_plan.specs.Playable.{IsPlayable};
-ghost use Rattle.eg_campaign.specs.Groups.{AreTold, leader_in, rows_shared, rows_made, told_on, told_by, written_over};
+ghost use Rattle.eg_campaign.specs.Groups.{leader_in, rows_shared, told_on, written_over};
 
 use crate::checkpoints::{Bench, play_from, share};
 use crate::counting::count_none;
-use crate::kinds::{Benches, play_first};
-use crate::leading::{counts_led, leaders};
 use crate::wanted::wanted_in;
 use eg_base::NoMemory;
 use eg_plan::RunInput;
 use eg_plant::CopyEngine;
-use eg_record::{MarginTally, RunFacts, Tally};
+use eg_record::RunFacts;
 use eg_tick::{BenchedEngine, Ticks};
 use eg_values::Calibration;
 use std::alloc::Global;
@@ -24,63 +22,6 @@ pub(crate) struct Group<'a> {
     pub(crate) leaders: &'a [usize],
     pub(crate) index: usize,
     pub(crate) size: usize,
-}
-
-/// Plays the runs of a campaign as `run_all` does, and tells of each its facts, the reactions in its spans,
-/// its trap, and where they are `WEIGHED` how near it came to a cut (docs/CONCEPT.md, "The report of a run",
-/// "`table`" and "`margins`"). The ticks that are made are counted in `steps`. NoMemory is its one refusal.
-#[inline(never)]
-pub fn told_all<const WEIGHED: bool>(
-    alloc: Global,
-    calibration: &Calibration,
-    inputs: &[RunInput],
-    steps: &mut Ticks,
-) -> Result<Vec<RunFacts>, NoMemory>
-    requires { All IsPlayable inputs.now }
-    ensures { AreTold (told_by WEIGHED calibration.now) inputs.now (rows_made calibration.now inputs.now)
-        steps.old steps.new result }
-{
-    // Called for its clause alone.
-    count_none(steps);
-    let leaders = leaders(alloc, inputs)?;
-    let counts = counts_led(alloc, &leaders)?;
-    let mut told = untold(alloc, calibration, inputs.len())?;
-    let mut benches = Benches::new(calibration);
-    for i in 0..inputs.len() {
-        if leaders[i] != i {
-            continue;
-        }
-        let group = Group {
-            leaders: &leaders,
-            index: i,
-            size: counts[i],
-        };
-        play_first::<WEIGHED>(
-            alloc,
-            &mut benches,
-            calibration,
-            inputs,
-            group,
-            &mut told,
-            steps,
-        )?;
-    }
-    Ok(told)
-}
-
-/// Places for what `count` runs tell. Until its group is played, what a run of no ticks tells stands at each.
-fn untold(alloc: Global, calibration: &Calibration, count: usize) -> Result<Vec<RunFacts>, NoMemory>
-    ensures { IfOk result (λ told. (none : RunFacts) × (told.items ≡ replicate count none)) }
-{
-    let rules = calibration.rules();
-    let tally = Tally::new(rules.threshold, rules.torque);
-    let none = RunFacts {
-        facts: tally.facts(),
-        reactions: tally.reactions(),
-        margins: MarginTally::new().margins(),
-        trap: None,
-    };
-    Ok(vec![in alloc; none; count]?)
 }
 
 /// Plays this group on an engine of this type: the run without a fault once, and each run of the group from

@@ -16,7 +16,6 @@ mod recording;
 mod under;
 mod wanted;
 
-pub use groups::told_all;
 pub use kinds::{facts_under, record_into};
-pub use play::{facts_all, run_all};
+pub use play::{facts_all, run_all, told_all};
 pub use recording::RecordStop;

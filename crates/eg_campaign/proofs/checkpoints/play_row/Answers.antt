@@ -1,6 +1,5 @@
 use Rattle.std.proofs.Common.{◌≡◌, ◌∙◌, sym, ap, not, ◌==◌}
 use Rattle.eg_record.specs.declared.row.Row.{Row}
-use Rattle.eg_model.specs.Bench.{Run}
 use Rattle.eg_model.specs.Records.{row_at}
 use Rattle.eg_model.proofs.RecordTicks.{row_tick}
 use Rattle.eg_campaign.specs.declared.checkpoints.Played.{Played}

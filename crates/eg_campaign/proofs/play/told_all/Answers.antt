@@ -6,7 +6,7 @@ use Rattle.eg_campaign.specs.Groups.{leader_in, told_by, written_over}
 use Rattle.eg_campaign.proofs.OneGroup.{begun, out_none}
 use Rattle.eg_campaign.proofs.LeaderLemmas.{item, leader-at, leaders-below, led-before, not_led}
 use Rattle.eg_campaign.proofs.AllGroups.{Goes, told_after, places, wrote_back, not_told, goes-begin, goes-on, goes-new, goes-stopped, goes-end-told, goes-end-counted}
-use Rattle.eg_campaign.proofs.groups.told_all.Goals as goal
+use Rattle.eg_campaign.proofs.play.told_all.Goals as goal
 
 pub loop-i-init : goal.loop-i-init
 loop-i-init g c = record {

@@ -1,7 +1,7 @@
 use Rattle.std.proofs.Common.{not, ◌==◌}
 use Rattle.eg_campaign.specs.Checkpoints.{AreFor}
 use Rattle.eg_campaign.proofs.AllGroups.{Goes}
-use Rattle.eg_campaign.proofs.groups.told_all.Given as goal
+use Rattle.eg_campaign.proofs.play.told_all.Given as goal
 
 -- the groups that are led by the runs so far are played
 abbrev pub invariant-loop-i : goal.invariant-loop-i
