@@ -4,8 +4,7 @@ ghost use Rattle.eg_desk.specs.Words.{word_bytes, asks_lines, command_of, said, 
 ghost use Rattle.eg_app.specs.Ends.{Ends, HasPutNothing, Completes, call};
 ghost use Rattle.eg_app.specs.Missing.{ReadsNothing, TellsMissing};
 ghost use Rattle.eg_app.specs.Headline.{TellsHeadline};
-ghost use Rattle.eg_desk.specs.Names.{Names, IsFileName};
-ghost use Rattle.eg_desk.specs.Names.{NotesOutcome};
+ghost use Rattle.eg_desk.specs.Names.{Names, IsFileName, NotesOutcome};
 ghost use Rattle.eg_app.specs.Unlined.{EndsWithoutLines, no_lines};
 ghost use Rattle.eg_base.specs.Outside.{ShownStore};
 ghost use Rattle.eg_outcome.specs.Changes.{change, change_of};
