@@ -7,7 +7,7 @@ use eg_num::Drive;
 use eg_pages::PagedMemory;
 use eg_plant::GasolineEngine;
 use eg_record::{Row, row_text, summarize, summary_text};
-use eg_tick::{RunRecord, SlicePlan, Slices, Ticks, bench_begin, bench_tick, run_one};
+use eg_tick::{Controller, RunRecord, SlicePlan, Slices, Ticks, bench_begin, bench_tick, run_one};
 use eg_values::reference;
 use eg_word::FULL;
 use std::alloc::Global;
@@ -56,16 +56,31 @@ fn run(
     run_one(alloc, &reference(), image, plan, drive, None, steps)
 }
 
-/// The rows of twenty ticks of the image that sets both outputs to 1000, over a memory in pages.
+/// A controller over a memory in pages, which has made no tick: that of a run on the bench of the image that
+/// sets both outputs to 1000.
 #[tactic(auto, unfolding(eg_fault::specs::Faults::IsNoneOrValid))]
-fn paged_rows(alloc: Global, plan: &SlicePlan, drive: &Drive) -> Result<Vec<Row>, NoMemory> {
+fn begun(alloc: Global) -> Result<Controller<GasolineEngine, PagedMemory>, NoMemory> {
+    bench_begin(&reference(), &FULL, None, PagedMemory::new(alloc)?)
+}
+
+/// A branch of such a controller.
+#[tactic(auto, unfolding(eg_fault::specs::Faults::IsNoneOrValid))]
+fn branched(alloc: Global) -> Result<Controller<GasolineEngine, PagedMemory>, NoMemory> {
+    let calibration = reference();
+    let engine = GasolineEngine::new(calibration.plant().copy());
     let memory = PagedMemory::new(alloc)?;
-    let mut controller = bench_begin::<GasolineEngine, PagedMemory>(
-        &reference(),
-        &FULL,
-        None,
-        memory,
-    )?;
+    let controller = Controller::new(calibration, &FULL, None, memory, engine)?;
+    controller.branch(alloc, None)
+}
+
+/// The rows of twenty ticks of a controller that has made none.
+fn rows_by(
+    alloc: Global,
+    controller: Controller<GasolineEngine, PagedMemory>,
+    plan: &SlicePlan,
+    drive: &Drive,
+) -> Result<Vec<Row>, NoMemory> {
+    let mut controller = controller;
     let mut steps = Ticks::new();
     let mut rows = Vec::new(alloc);
     for tick in 0..20 {
@@ -99,7 +114,7 @@ fn the_rows_of_a_run_are_written_line_by_line(rt: HostRuntime) -> Result<(), Fai
 }
 
 #[test]
-fn the_rows_of_a_run_are_summed_up_and_are_the_same_over_pages(
+fn the_rows_of_a_run_are_summed_up_and_are_the_same_over_pages_and_by_a_branch(
     rt: HostRuntime,
 ) -> Result<(), Fail> {
     let mut steps = Ticks::new();
@@ -117,10 +132,13 @@ fn the_rows_of_a_run_are_summed_up_and_are_the_same_over_pages(
         34,
     )?;
     let line = summary_text(rt.alloc(), &summary)?;
-    let paged = paged_rows(rt.alloc(), &plan, &drive)?;
+    let paged = rows_by(rt.alloc(), begun(rt.alloc())?, &plan, &drive)?;
+    let branch = rows_by(rt.alloc(), branched(rt.alloc())?, &plan, &drive)?;
     let (whole, in_pages) = (lines(rt.alloc(), rows)?, lines(rt.alloc(), &paged)?);
+    let by_branch = lines(rt.alloc(), &branch)?;
     assert!(rt; line.as_str() == FULL_LINE);
     assert!(rt; steps.count() == 20 && steps.sum() == 51_803);
     assert!(rt; rows.len() == 20 && whole.as_str() == in_pages.as_str());
+    assert!(rt; whole.as_str() == by_branch.as_str());
     Ok(())
 }
