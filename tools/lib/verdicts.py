@@ -108,9 +108,9 @@ def lapse_stretch(played):
 def no_bound(played):
     """Why `limits` may print no bound for lapses. With a ramp none holds; else the weights leave it open."""
     if played.has_ramp:
-        return ("no bound holds for how long an excess lasts: with a ramp (permit.fall) what level 2 permits doesn't fall at the "
-                "ticks that it misses, and so may stand above what is permitted. With fall 5 and one tick in 100 missed an "
-                "excess can last for ever. Where level 2 never misses a tick, --without-lapses says so")
+        return ("no bound holds for how long an excess lasts, but for those of claim 93: with a ramp (permit.fall) what level 2 "
+                "permits doesn't fall at the ticks that it misses, and so may stand above what is permitted. With fall 5 and one "
+                "tick in 100 missed an excess can last for ever. Where level 2 never misses a tick, --without-lapses says so")
     return ("no bound is known for how long an excess lasts: right verdicts may take back what the wrong ones add (up, down and "
             "limit of the answers)")
 

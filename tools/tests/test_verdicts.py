@@ -84,7 +84,7 @@ class Verdicts(unittest.TestCase):
 
     def test_why_there_is_no_bound_for_lapses(self):
         for has_ramp, reason in ((False, "no bound is known for how long an excess lasts: right verdicts may take back"),
-                                 (True, "no bound holds for how long an excess lasts: with a ramp (permit.fall)")):
+                                 (True, "no bound holds for how long an excess lasts, but for those of claim 93: with a ramp (permit.fall)")):
             told = [words for _, words in points(played_of(limits=limits_of(excess="11", lapse="none"), has_ramp=has_ramp), asked_of())]
             self.assertEqual([words.startswith(f"Under lapses, which aren't listed, {reason}") for words in told].count(True), 1)
 
