@@ -1,7 +1,7 @@
 # Read by the launcher where the program must be proved and built, after program.sh.
 # shellcheck shell=bash
 # What a build took on four free processors where rt had kept no proof; fast ones need half of it.
-minutes=35
+minutes=25
 
 # Waits until no other call builds here. Where the folder can't be locked, none is waited for.
 take_turn() {
