@@ -1,15 +1,16 @@
 -- Which modules of level 2 run under each class of faults.
 use Rattle.std.proofs.Common.{◌≡◌, ℕ, ◌-◌, ◌<◌, ◌⊎◌, inl, inr, Bool, true, false, ◌&&◌, refl, sym, ap, subst, arith}
 use Rattle.std.proofs.lemmas.Bool.{ne_eqb}
+use Rattle.std.proofs.lemmas.Bool.Decides.{nat_tests}
 use Rattle.std.specs.Prelude.{◌==◌, not, if◌then◌else◌, Option, Some, None}
 use Rattle.eg_answer.specs.Modules.{AllRun, NoneRuns, OthersRun}
 use Rattle.eg_fault.specs.Effects.{Effects, no_effects}
-use Rattle.eg_fault.specs.Faults.{effects_of, effects, is_left_out}
-use Rattle.eg_fault.specs.Running.{LeavesOut, RunsWhole, RunningLaw, RunAlike, ElseAlike, may_change_levels, changes_levels, all_run, runs_of, IsRunning}
+use Rattle.eg_fault.specs.Faults.{effects_of, effects, is_left_out, IsNoneOrValid}
+use Rattle.eg_fault.specs.Running.{LeavesOut, RunsWhole, RunningLaw, RunAlike, ElseAlike, may_change_levels, changes_levels, of_levels, beyond_levels, all_run, runs_of, IsRunning}
 use Rattle.eg_fault.specs.declared.class.Class.{Class}
 use Rattle.eg_fault.specs.declared.class.Class.TheVariants.{Skip, Disturb, Flip, Halt, Lapse}
 use Rattle.eg_fault.specs.declared.class.Fault.{Fault}
-use Rattle.eg_fault.proofs.ActingLemmas.{before_onset, from_onset, of_class, of_all}
+use Rattle.eg_fault.proofs.ActingLemmas.{before_onset, from_onset, at_tick, of_class, of_all}
 
 all-no_effects : AllRun no_effects.ran
 unfolding no_effects
@@ -101,10 +102,29 @@ spared-now (Lapse after every) k is = record {
 }
 spared-now _ k is = record { level1 = refl; ran = refl; disturbance = refl; flip = refl }
 
--- so they run as without a fault where this is what is out of order
-pub same-now : (x : Effects) (tick : ℕ) → RunAlike no_effects x → RunAlike (effects None tick) x
+-- what holds where nothing is out of order holds without a fault
+of_none : (P : Effects → Type 0) (tick : ℕ) → P no_effects → P (effects None tick)
 unfolding effects
-same-now x tick alike = alike
+of_none P tick plain = plain
+
+-- either the fault is kept, or it is none
+kept-or-none : (P : Option Fault → Type 0) (keeps : Bool) (fault : Fault) → P (Some fault) → (keeps ≡ false → P None) → P (if keeps then Some fault else None)
+kept-or-none P true fault kept none = kept
+kept-or-none P false fault kept none = none refl
+
+-- so they run alike under the fault of them
+pub alike-of_levels : (fault : Option Fault) (tick : ℕ) → RunAlike (effects (of_levels fault tick) tick) (effects fault tick)
+unfolding of_levels
+alike-of_levels None tick = same _
+alike-of_levels (Some fault) tick = kept-or-none (λ found. RunAlike (effects found tick) (effects (Some fault) tick)) _ fault (same _)
+    (λ is. of_none (λ x. RunAlike x (effects (Some fault) tick)) tick (at_tick (RunAlike no_effects) fault tick (λ early. same no_effects)
+    (λ late. spared-now fault.class (tick - fault.onset) (grind (arith, nat_tests)))))
+
+-- and it is none or valid, as the fault is
+pub valid-of_levels : (fault : Option Fault) (tick : ℕ) → IsNoneOrValid fault → IsNoneOrValid (of_levels fault tick)
+unfolding of_levels
+valid-of_levels None tick valid = valid
+valid-of_levels (Some fault) tick valid = kept-or-none IsNoneOrValid _ fault valid (λ is. unfold IsNoneOrValid in tt)
 
 -- ---- all else ----
 
@@ -121,10 +141,13 @@ spared-else Halt k is = record { track = refl; raise = refl; held_plate = refl; 
 spared-else (Lapse after every) k is = record { track = refl; raise = refl; held_plate = refl; send = refl; wild = refl; opens = refl; conducts = refl }
 spared-else _ k is = absurd (let clash : false ≡ true = is in cc)
 
--- so all else is as without a fault where this is what is out of order
-pub else-now : (x : Effects) (tick : ℕ) → ElseAlike no_effects x → ElseAlike (effects None tick) x
-unfolding effects
-else-now x tick alike = alike
+-- so all else is alike under the fault of it
+pub alike-beyond_levels : (fault : Option Fault) (tick : ℕ) → ElseAlike (effects (beyond_levels fault tick) tick) (effects fault tick)
+unfolding beyond_levels
+alike-beyond_levels None tick = same-else _
+alike-beyond_levels (Some fault) tick = kept-or-none (λ found. ElseAlike (effects found tick) (effects (Some fault) tick)) _ fault (same-else _)
+    (λ is. of_none (λ x. ElseAlike x (effects (Some fault) tick)) tick (at_tick (ElseAlike no_effects) fault tick (λ early. same-else no_effects)
+    (λ late. spared-else fault.class (tick - fault.onset) (grind (arith, nat_tests)))))
 
 -- ---- where level 1 doesn't run ----
 

@@ -1,6 +1,6 @@
 -- Outside the headline. Which modules of level 2 run under a fault. At each tick all of them run, or none
 -- does, or all but one; and where one is left out, it is the same one at each tick from the onset on.
-use Rattle.std.specs.Prelude.{ℕ, ◌≡◌, ◌≤◌, ◌<◌, ◌==◌, ◌⊎◌, Bool, true, false, not, ◌&&◌, if◌then◌else◌, Option, Some, None}
+use Rattle.std.specs.Prelude.{ℕ, ◌-◌, ◌≡◌, ◌≤◌, ◌<◌, ◌==◌, ◌⊎◌, nat_le, Bool, true, false, not, ◌&&◌, if◌then◌else◌, Option, Some, None}
 use Rattle.eg_answer.specs.Modules.{AllRun, NoneRuns, OthersRun}
 use Rattle.eg_answer.specs.declared.modules.TheConstants.{MODULES}
 use Rattle.eg_fault.specs.Effects.{Effects}
@@ -61,6 +61,18 @@ changes_levels (Flip word mask) k = k == 0
 changes_levels Halt k = true
 changes_levels (Lapse after every) k = is_left_out after every k
 changes_levels _ k = false
+
+-- the fault, if at a tick it has begun and makes level 1 and level 2 run otherwise than without a fault
+unfoldable pub of_levels : Option Fault → ℕ → Option Fault
+of_levels None tick = None
+of_levels (Some fault) tick =
+    if nat_le fault.onset tick && changes_levels fault.class (tick - fault.onset) then Some fault else None
+
+-- the fault, if at a tick it has begun and is of a class that may change all else
+unfoldable pub beyond_levels : Option Fault → ℕ → Option Fault
+beyond_levels None tick = None
+beyond_levels (Some fault) tick =
+    if nat_le fault.onset tick && not (may_change_levels fault.class) then Some fault else None
 
 -- ---- as it is worked out for a tick ----
 

@@ -1,11 +1,11 @@
 // What a fault does at a tick.
-ghost use Rattle.std.specs.Prelude.{◌≡◌, ℕ, false, option_map, Some, IfSome};
+ghost use Rattle.std.specs.Prelude.{◌≡◌, ℕ, false, option_map};
 ghost use Rattle.std.specs.Option.{option_copied, option_map_or};
 ghost use Rattle.eg_answer.specs.Periods.{place_of};
 ghost use Rattle.eg_fault.specs.Effects;
 ghost use Rattle.eg_fault.specs.Effects.{no_effects, readings_under, contacts_under, sends_at};
 ghost use Rattle.eg_fault.specs.Faults.{effects, effects_of};
-ghost use Rattle.eg_fault.specs.Running.{RunAlike, ElseAlike, IsRunning};
+ghost use Rattle.eg_fault.specs.Running.{of_levels, beyond_levels, RunAlike, ElseAlike, IsRunning};
 
 use crate::{Class, Fault, ModuleRuns};
 use eg_answer::Times;
@@ -98,12 +98,14 @@ pub fn flip(fault: Option<&Fault>, tick: u32) -> Option<(u8, u16)>
 
 /// The fault, where it changes at a tick how level 1 and level 2 run, else None: then both run, no module is
 /// disturbed, and no word is flipped (docs/CONCEPT.md, "Faults").
+#[tactic(auto, unfolding(crate::specs::Running::of_levels))]
 pub fn fault_of_levels(fault: Option<&Fault>, tick: u32) -> Option<&Fault>
-    ensures fault { IfSome (option_copied result) (λ found. option_copied fault.entry ≡ Some found) }
+    ensures fault { option_copied result ≡ of_levels (option_copied fault.entry) tick }
     ensures same { RunAlike (effects (option_copied result) tick) (effects (option_copied fault.entry) tick) }
 {
-    let (class, after) = acting(fault, tick)?;
-    if !class.changes_levels(after) {
+    let found = fault?;
+    let after = tick.checked_sub(found.onset)?;
+    if !found.class.changes_levels(after) {
         return None;
     }
     fault
@@ -111,11 +113,14 @@ pub fn fault_of_levels(fault: Option<&Fault>, tick: u32) -> Option<&Fault>
 
 /// The fault, where it may change at a tick more than how level 1 and level 2 run, else None: then sensors,
 /// plate, questions, answers and paths are as without a fault (docs/CONCEPT.md, "Faults").
+#[tactic(auto, unfolding(crate::specs::Running::beyond_levels))]
 pub fn fault_beyond_levels(fault: Option<&Fault>, tick: u32) -> Option<&Fault>
-    ensures { ElseAlike (effects (option_copied result) tick) (effects (option_copied fault.entry) tick) }
+    ensures fault { option_copied result ≡ beyond_levels (option_copied fault.entry) tick }
+    ensures same { ElseAlike (effects (option_copied result) tick)
+        (effects (option_copied fault.entry) tick) }
 {
-    let (class, _after) = acting(fault, tick)?;
-    if class.may_change_levels() {
+    let found = fault?;
+    if tick < found.onset || found.class.may_change_levels() {
         return None;
     }
     fault

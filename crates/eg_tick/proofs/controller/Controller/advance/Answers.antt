@@ -48,7 +48,7 @@ pub step_engine-requires : goal.step_engine-requires
 step_engine-requires g c x is =
     held-within c.self.inside.fault c.self.inside.ticks x c.self.invariant.keeps.fault
     (subst (λ f. (effects f c.self.inside.ticks).held_plate ≡ Some x) c.as_ref-fault.ensures.value
-    (sym (c.held-held_plate.ensures ∙ c.fault_beyond_levels-other.ensures.held_plate) ∙ is))
+    (sym (c.held-held_plate.ensures ∙ c.fault_beyond_levels-other.ensures.same.held_plate) ∙ is))
 
 pub overflow_cast-task : goal.overflow_cast-task
 overflow_cast-task g c =
@@ -60,13 +60,13 @@ pub judge-judged-requires-clause-period : goal.judge-judged-requires-clause-peri
 judge-judged-requires-clause-period g c tame =
     period-in _ (c.self.invariant.keeps.stands c.if-self.false) c.args.drive.now _ c.enter.new.span c.enter.new.level1.registers (g.M.Guarded.shows c.enter.new.memory)
     c.reset.ensures.reset c.in_ok-enter.ensures.holds (subst (λ f. (effects f c.self.inside.ticks).wild ≡ None) c.as_ref-fault.ensures.value
-    (sym c.fault_beyond_levels-other.ensures.wild ∙ tame))
+    (sym c.fault_beyond_levels-other.ensures.same.wild ∙ tame))
 
 pub judge-judged-requires-clause-later : goal.judge-judged-requires-clause-later
 judge-judged-requires-clause-later g c tame =
     later-in _ (c.self.invariant.keeps.stands c.if-self.false) c.args.drive.now _ c.enter.new.span c.enter.new.level1.registers (g.M.Guarded.shows c.enter.new.memory)
     c.reset.ensures.reset c.in_ok-enter.ensures.holds (subst (λ f. (effects f c.self.inside.ticks).wild ≡ None) c.as_ref-fault.ensures.value
-    (sym c.fault_beyond_levels-other.ensures.wild ∙ tame))
+    (sym c.fault_beyond_levels-other.ensures.same.wild ∙ tame))
 
 pub note-requires : goal.note-requires
 note-requires g c =
@@ -147,7 +147,7 @@ advance : (g : Over) (c : goal.After-row g) → Advance (old g c) (new g c) c.ar
 advance g c =
     let noted = c.note.ensures in
     let test_ticks = c.self.invariant.test_ticks_are in
-    let other = c.fault_beyond_levels-other.ensures in
+    let other = c.fault_beyond_levels-other.ensures.same in
     settled c.as_ref-fault.ensures.value
     (record {
       accepted = c.self.invariant.keeps.accepted;
@@ -242,7 +242,7 @@ steps g c =
     let words = (g.M.Guarded.shows c.enter.new.memory).words in
     let engine : c.self.inside.engine ≡ c.args.self.now.engine = ap (λ v. v.engine) c.self.view_is in
     let held : c.held-held_plate.result ≡ (effects c.self.inside.fault c.self.inside.ticks).held_plate =
-    c.held-held_plate.ensures ∙ c.fault_beyond_levels-other.ensures.held_plate ∙ ap (λ f. (effects f c.self.inside.ticks).held_plate) c.as_ref-fault.ensures.value in
+    c.held-held_plate.ensures ∙ c.fault_beyond_levels-other.ensures.same.held_plate ∙ ap (λ f. (effects f c.self.inside.ticks).held_plate) c.as_ref-fault.ensures.value in
     subst (λ e. g.E.Engine.steps e (slice_index words 2064) (slice_index words 2065) c.at.result.on (effects c.self.inside.fault c.self.inside.ticks).held_plate
     c.step_engine.new.engine) engine
     (subst (λ o. g.E.Engine.steps c.self.inside.engine (slice_index words 2064) (slice_index words 2065) c.at.result.on o c.step_engine.new.engine) held
@@ -292,7 +292,7 @@ returns-in_err-enter g c = ran_out c.from_residual.result c.from_residual.ensure
 
 pub returns-in_err-step : goal.returns-in_err-step
 returns-in_err-step g c =
-    let other = c.fault_beyond_levels-other.ensures in
+    let other = c.fault_beyond_levels-other.ensures.same in
     ran_out c.from_residual-in_err-step.result c.from_residual-in_err-step.ensures.0 c.self.view_is c.if-self.false c.self.invariant.keeps refl
     (keeps_then _ _ _ _ _ c.in_ok-enter.ensures.keeps c.in_err-step.ensures.keeps)
     (λ s h stands. stepped g.E.Engine.steps s c.args.drive.now c.args.slices.now _ h c.args.self.now.kept _ c.enter.new.span c.enter.new.level1.registers
