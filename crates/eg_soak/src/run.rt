@@ -1,7 +1,6 @@
 // The facts of a run on the bench.
-ghost use Rattle.std.specs.Prelude.{◌≡◌, ◌+◌, ◌%◌, ◌^◌, ◌≤◌, None, IsTrue, map, length};
+ghost use Rattle.std.specs.Prelude.{◌≡◌, ◌≤◌, None, IsTrue, length, reverse};
 ghost use Rattle.std.specs.Option.{option_copied};
-ghost use Rattle.std.specs.List.{sum};
 ghost use Rattle.eg_guard.specs.declared.regions.TheConstants.{DATA as CODE_END};
 ghost use Rattle.eg_answer.specs.Times.{reaction_of};
 ghost use Rattle.eg_fault.specs.Faults.{IsListed, IsNoneOrValid};
@@ -9,7 +8,7 @@ ghost use Rattle.eg_model.specs.Engines.{gasoline};
 ghost use Rattle.eg_model.specs.Bench.{Run};
 ghost use Rattle.eg_model.specs.Rows.{record_rows, record_trap};
 ghost use Rattle.eg_record.specs.Facts.{facts_of};
-ghost use Rattle.eg_tick.specs.Weights.{weight_of};
+ghost use Rattle.eg_tick.specs.Counting.{count_with};
 ghost use Rattle.eg_tick.specs.Run.{run_by, IsAt};
 ghost use Rattle.eg_tick.specs.Facts.{IsToldOf, IsWithoutReset, FactsReactWithin, FactsReactAtOnce, GoOffOnce};
 
@@ -57,11 +56,8 @@ pub fn run_facts(
     // Without a fault they go off once at most.
     ensures once { option_copied fault.entry ≡ None → IsWithoutReset drive.now → GoOffOnce result.0 }
     // Each tick is counted, and each row of the record is weighed.
-    ensures counted { steps.new ≡ record {
-      count = (steps.old.count + length drive.now) % 2 ^ 64;
-      weights = (steps.old.weights + sum (map weight_of (record_rows gasoline
-          (run_by calibration.now image.now (option_copied fault.entry) plan.now drive.now)))) % 2 ^ 64;
-    } }
+    ensures counted { steps.new ≡ count_with steps.old (reverse (record_rows gasoline
+        (run_by calibration.now image.now (option_copied fault.entry) plan.now drive.now))) }
 {
     // Called for its clause alone: the calibration is an accepted one.
     let _rules = calibration.rules();
@@ -88,11 +84,8 @@ fn bench_facts<E: BenchedEngine, const WEIGHED: bool>(
     requires fault { IsNoneOrValid (option_copied fault) }
     ensures told { IsToldOf WEIGHED E.bench
         (run_by calibration.now image.now (option_copied fault.entry) plan.now drive.now) result }
-    ensures counted { steps.new ≡ record {
-      count = (steps.old.count + length drive.now) % 2 ^ 64;
-      weights = (steps.old.weights + sum (map weight_of (record_rows E.bench
-          (run_by calibration.now image.now (option_copied fault.entry) plan.now drive.now)))) % 2 ^ 64;
-    } }
+    ensures counted { steps.new ≡ count_with steps.old (reverse (record_rows E.bench
+        (run_by calibration.now image.now (option_copied fault.entry) plan.now drive.now))) }
 {
     let rules = calibration.rules();
     let mut controller = bench_controller::<E>(calibration, image, fault);
@@ -116,10 +109,8 @@ fn facts_by<E: BenchedEngine, const WEIGHED: bool>(
     ensures told { (r : Run) → r.plan ≡ plan.now → r.drive ≡ drive.now → r.setting.cal.rules ≡ rules.now →
         IsAt E.bench E.come_to r 0 controller.old → IsToldOf WEIGHED E.bench r result }
     ensures counted { (r : Run) → r.plan ≡ plan.now → r.drive ≡ drive.now →
-        IsAt E.bench E.come_to r 0 controller.old → steps.new ≡ record {
-          count = (steps.old.count + length drive.now) % 2 ^ 64;
-          weights = (steps.old.weights + sum (map weight_of (record_rows E.bench r))) % 2 ^ 64;
-        } }
+        IsAt E.bench E.come_to r 0 controller.old →
+        steps.new ≡ count_with steps.old (reverse (record_rows E.bench r)) }
 {
     // Called for its clause alone: both numbers are a u64.
     let _numbers = (steps.count(), steps.sum());

@@ -2,14 +2,12 @@ use Rattle.std.proofs.Common.{◌≡◌, ◌∙◌, sym, ap, subst}
 use Rattle.std.specs.Prelude.{is_some}
 use Rattle.std.specs.Option.{option_copied}
 use Rattle.eg_fault.specs.Faults.{IsNoneOrValid}
-use Rattle.eg_model.specs.Engines.{gasoline}
 use Rattle.eg_tick.specs.Facts.{record_facts}
 use Rattle.eg_tick.specs.Run.{run_by}
 use Rattle.eg_tick.specs.Counting.{count_with}
 use Rattle.eg_model.specs.EngineRuns.{EngineRun, rows_in_time}
 use Rattle.eg_soak.specs.Facts.{drawn_facts}
 use Rattle.eg_soak.specs.Soak.{on_gasoline, run_drawn}
-use Rattle.eg_tick.proofs.CountLemmas.{counts_record}
 use Rattle.eg_soak.proofs.FactsLemmas.{any_fault, facts_told}
 use Rattle.eg_soak.proofs.facts.play.Goals as goal
 use Rattle.eg_soak.proofs.facts.play.Goals.{After-of}
@@ -35,5 +33,4 @@ returns-clause-facts c = c.of.ensures
 
 pub returns-clause-counted : goal.returns-clause-counted
 unfolding rows_in_time
-returns-clause-counted c = counts_record gasoline (played c).run c.args.steps.now c.run_facts-trap.new.steps c.run_facts-trap.ensures.counted
-    ∙ ap (λ r. count_with c.args.steps.now (rows_in_time r)) (is_drawn c)
+returns-clause-counted c = c.run_facts-trap.ensures.counted ∙ ap (λ r. count_with c.args.steps.now (rows_in_time r)) (is_drawn c)

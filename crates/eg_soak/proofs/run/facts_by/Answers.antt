@@ -11,6 +11,7 @@ use Rattle.eg_tick.specs.Run.{IsAt}
 use Rattle.eg_tick.specs.Margins.{weighed_to}
 use Rattle.eg_tick.proofs.RunLemmas.{counted, counted-none, drive-at}
 use Rattle.eg_tick.proofs.FactLaws.{told, told_to, tallied, counted-next, rows-next}
+use Rattle.eg_tick.proofs.CountLemmas.{counts_record}
 use Rattle.eg_tick.proofs.WeighLemmas.{none_weighed}
 use Rattle.eg_soak.proofs.run.facts_by.Goals as goal
 
@@ -88,8 +89,8 @@ returns-clause-told g c = λ r plan drive rules begins.
 pub returns-clause-counted : goal.returns-clause-counted
 returns-clause-counted g c = λ r plan drive begins.
     let bench = g.E.BenchedEngine.bench in
-    let all : c.loop-tick.tick ≡ length c.args.drive.now = omega (arith, c.loop-tick-test.false, c.loop-tick.auto.tick-end) in
+    let end : c.loop-tick.tick ≡ length r.drive = omega (arith, c.loop-tick-test.false, c.loop-tick.auto.tick-end) ∙ ap length (sym drive) in
     let (at, stands, weighs, counts) = c.loop-tick.invariant.made r plan drive begins in
-    counts ∙ ap (λ n. counted c.args.steps.now n (rows_to bench r n)) all
-    ∙ ap (λ n. counted c.args.steps.now (length c.args.drive.now) (rows_to bench r n)) (ap length (sym drive))
-    ∙ ap (counted c.args.steps.now (length c.args.drive.now)) (sym (record_rows-is bench r))
+    counts_record bench r c.args.steps.now c.loop-tick.steps (counts
+    ∙ ap (λ n. counted c.args.steps.now n (rows_to bench r n)) end
+    ∙ ap (counted c.args.steps.now (length r.drive)) (sym (record_rows-is bench r)))
