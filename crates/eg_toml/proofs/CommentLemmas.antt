@@ -1,5 +1,6 @@
--- A document is the same without the comments at its front.
-use Rattle.std.proofs.Common.{◌≡◌, ◌∙◌, refl, subst, ℕ, zero, suc, ◌+◌, ◌≤◌, ◌<◌, ◌==◌, if◌then◌else◌, Bool, true, false, List, [], ◌∷◌, length, drop, Option, Some, None, option_map, option_and_then, inl, inr, arith}
+-- A document is the same, and weighs the same, without the comments at its front.
+use Rattle.std.proofs.Common.{◌≡◌, ◌≢◌, ◌∙◌, refl, ap, sym, subst, ℕ, zero, suc, ◌+◌, ◌≤◌, ◌<◌, ◌==◌, if◌then◌else◌, Bool, true, false, List, [], ◌∷◌, length, drop, Option, Some, None, option_map, option_and_then, inl, inr, arith}
+use Rattle.std.specs.Prelude.{fold}
 use Rattle.std.specs.List.{prefix_len}
 use Rattle.std.specs.Str.{IsUtf8, is_utf8}
 use Rattle.std.proofs.lemmas.Bool.{cases_Bool}
@@ -14,7 +15,10 @@ use Rattle.toml.specs.Tables.{Document, close, define, no_nodes}
 use Rattle.toml.specs.Parse.{line, lines, skip_bom, parse_document}
 use Rattle.eg_toml.specs.Documents.{document_of}
 use Rattle.eg_toml.specs.Comments.{is_visible, IsKeptBy}
+use Rattle.eg_toml.specs.declared.places.Place.TheVariants.{Comment}
+use Rattle.eg_toml.specs.Weight.{Weighed, weighed_on, unweighed, weight_of}
 use Rattle.eg_toml.proofs.DocumentLemmas.{document-some}
+use Rattle.eg_toml.proofs.WeightLemmas.{in_comment}
 
 -- lines that are read with room for so many expressions are read with more room
 lines-room : (n m : ℕ) (doc : Document) (text : List ℕ) (all : Document) → n ≤ m → lines n doc text ≡ Some all → lines m doc text ≡ Some all
@@ -115,3 +119,19 @@ comment-over comment rest ends =
     kept (35 ∷ comment) (10 ∷ rest) (visible-over comment ∙ rw ends refl) (omega (arith, short))
     (no-mark 35 comment (omega arith)) (no-mark 10 rest (omega arith))
     (λ utf8. behind-ascii 35 comment (omega arith) (visible-utf8 comment (rw ends utf8)))
+
+visible-weighs : (w : Weighed) (bytes : List ℕ) → w.place ≡ Comment → fold weighed_on w (behind bytes) ≡ fold weighed_on w bytes
+visible-weighs w [] e = refl
+visible-weighs w (c ∷ cs) e = elim (cases_Bool (is_visible c)) [
+  | inl visible ↦
+      let more : 1 + prefix_len is_visible cs ≡ suc (prefix_len is_visible cs) = omega arith in
+      let other : c ≢ 10 = grind (arith, nat_tests) in
+      rw (visible, more) (visible-weighs w cs e ∙ ap (λ v. fold weighed_on v cs) (sym (in_comment w c e other)))
+  | inr other ↦ rw other refl
+]
+
+-- and weighs nothing
+pub comment-weighs : (comment rest : List ℕ) → behind comment ≡ 10 ∷ rest → weight_of (10 ∷ rest) ≡ weight_of (35 ∷ comment)
+comment-weighs comment rest ends =
+    let w = weighed_on unweighed 35 in
+    ap (λ v. v.weight) (ap (fold weighed_on w) (sym ends) ∙ visible-weighs w comment refl)

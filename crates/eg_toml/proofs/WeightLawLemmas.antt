@@ -44,7 +44,7 @@ line_end_leaves w due.Heading = ap (with_weight (with_due_of w due.Heading) Outs
 line_end_leaves w due.Value = ap (with_weight (with_due_of w due.Value) Outside) (nothing_more w.weight)
 line_end_leaves w due.Item = ap (with_weight (with_due_of w due.Item) Outside) (nothing_more w.weight)
 
-on_hash : (w : Weighed) → settled w.place (byte "#") ≡ Outside → weighed_on w (byte "#") ≡ with_place w Comment
+pub on_hash : (w : Weighed) → settled w.place (byte "#") ≡ Outside → weighed_on w (byte "#") ≡ with_place w Comment
 unfolding chars
 on_hash w e = on_outside w (byte "#") e ∙ hash_leaves w w.due
 

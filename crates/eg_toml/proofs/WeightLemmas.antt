@@ -1,15 +1,16 @@
 -- What one byte more adds to a document's weight and to what is counted.
-use Rattle.std.proofs.Common.{◌≡◌, ◌≢◌, ℕ, zero, suc, refl, take, ◌+◌, ◌-◌, ◌<◌, ◌≤◌, ◌==◌, nat_lt, if◌then◌else◌, Bool, true, false, List, [], ◌∷◌, All, length, drop, slice_index_or, ap, sym, subst, ◌∙◌, arith}
+use Rattle.std.proofs.Common.{◌≡◌, ◌≢◌, ℕ, zero, suc, refl, take, ◌+◌, ◌-◌, ◌<◌, ◌≤◌, ◌==◌, nat_lt, if◌then◌else◌, Bool, true, false, List, [], ◌∷◌, All, length, drop, slice_index, slice_index_or, ap, sym, subst, ◌∙◌, arith}
 use Rattle.std.specs.Prelude.{fold}
 use Rattle.std.specs.Str.{byte, chars}
 use Rattle.std.proofs.lemmas.Bool.Decides.{nat_tests}
-use Rattle.std.proofs.lemmas.List.{length-drop, take_all}
+use Rattle.std.proofs.lemmas.List.{length-drop, drop_more, take_all}
 use Rattle.std.proofs.lemmas.List.Elements.{All-nil, All-cons, All-append, All-take}
-use Rattle.eg_toml.specs.declared.places.Place.TheVariants.{Comment}
+use Rattle.eg_toml.specs.declared.places.Place.TheVariants.{Outside, Comment}
 use Rattle.eg_toml.specs.declared.weight.Counts.{Counts}
 use Rattle.eg_toml.specs.declared.weight.Due.{Due}
 use Rattle.eg_toml.specs.Places.{settled, is_outside}
 use Rattle.eg_toml.specs.Weight.{Weighed, deepest, heaviest, names_behind, begins_heading, begins_item, is_opening, is_closing, with_item, with_sign, no_counts, opened, closed, with_lists, with_place, weighed_outside, weighed_on, unweighed, weight_of, is_too_heavy}
+use Rattle.eg_toml.proofs.WeightLawLemmas.{on_hash}
 
 -- what holds of both cases holds of the choice
 either : {A : Type 0} (P : A → Type 0) (b : Bool) (x y : A) → P x → P y → P (if b then x else y)
@@ -133,7 +134,7 @@ counted_on w after most more c under is h =
 
 -- ---- the rest of a comment ----
 
-in_comment : (w : Weighed) (c : ℕ) → w.place ≡ Comment → c ≢ 10 → weighed_on w c ≡ w
+pub in_comment : (w : Weighed) (c : ℕ) → w.place ≡ Comment → c ≢ 10 → weighed_on w c ≡ w
 unfolding chars
 in_comment w c e other = let feed : (c == 10) ≡ false = grind (arith, nat_tests) in rw (e, feed) (refl {a = with_place w Comment})
 
@@ -141,11 +142,36 @@ in_comment w c e other = let feed : (c == 10) ≡ false = grind (arith, nat_test
 pub slice_from : (n : ℕ) (bytes : List ℕ) → take (length bytes - n) (drop n bytes) ≡ drop n bytes
 slice_from n bytes = take_all (length bytes - n) (drop n bytes) (omega (arith, length-drop n bytes))
 
--- what stands in a comment before its line feed adds nothing
-pub comment_over : (w : Weighed) (end : ℕ) (bytes : List ℕ) → w.place ≡ Comment → All (λ c. c ≢ 10) (take end bytes)
+abbrev pub slice : ℕ → List ℕ → List ℕ
+slice n bytes = take (length bytes - n) (drop n bytes)
+
+pub slice-within : (n : ℕ) (bytes : List ℕ) → length (slice n bytes) ≤ length bytes
+slice-within n bytes = subst (λ cs. length cs ≤ length bytes) (sym (slice_from n bytes)) (omega (arith, length-drop n bytes))
+
+comment_run : (w : Weighed) (end : ℕ) (bytes : List ℕ) → w.place ≡ Comment → All (λ c. c ≢ 10) (take end bytes)
     → fold weighed_on w (drop end bytes) ≡ fold weighed_on w bytes
-comment_over w zero bytes e plain = refl
-comment_over w (suc end) [] e plain = refl
-comment_over w (suc end) (c ∷ cs) e plain =
-    comment_over w end cs e (λ i d below. plain (suc i) d (omega arith))
+comment_run w zero bytes e plain = refl
+comment_run w (suc end) [] e plain = refl
+comment_run w (suc end) (c ∷ cs) e plain =
+    comment_run w end cs e (λ i d below. plain (suc i) d (omega arith))
     ∙ ap (λ v. fold weighed_on v cs) (sym (in_comment w c e (plain 0 c (omega arith))))
+
+-- what stands in a comment before its line feed adds nothing,
+pub comment_over : (w : Weighed) (end : ℕ) (bytes : List ℕ) → w.place ≡ Comment → All (λ c. c ≢ 10) (take end bytes)
+    → fold weighed_on w (slice end bytes) ≡ fold weighed_on w bytes
+comment_over w end bytes e plain = ap (fold weighed_on w) (slice_from end bytes) ∙ comment_run w end bytes e plain
+
+next_comment : (w : Weighed) → w.place ≡ Comment → weighed_on (weighed_on w 10) 35 ≡ w
+next_comment w e =
+    let ends : weighed_on w 10 ≡ with_place w Outside = rw e refl in
+    ap (λ v. weighed_on v 35) ends ∙ on_hash (with_place w Outside) refl ∙ ap (with_place w) (sym e)
+
+-- nor does a comment on the line below
+pub comment_below : (w : Weighed) (rest : List ℕ) → w.place ≡ Comment → 2 ≤ length rest → slice_index rest 0 ≡ 10 → slice_index rest 1 ≡ 35
+    → fold weighed_on w (slice 2 rest) ≡ fold weighed_on w rest
+comment_below w rest e long feed hash =
+    let front : rest ≡ slice_index rest 0 ∷ slice_index rest 1 ∷ drop 2 rest =
+    drop_more rest 0 0 (omega arith) ∙ ap (λ cs. slice_index rest 0 ∷ cs) (drop_more rest 1 0 (omega arith)) in
+    let here : rest ≡ 10 ∷ 35 ∷ drop 2 rest = front ∙ rw (feed, hash) refl in
+    ap (fold weighed_on w) (slice_from 2 rest)
+    ∙ ap (λ v. fold weighed_on v (drop 2 rest)) (sym (next_comment w e)) ∙ ap (fold weighed_on w) (sym here)

@@ -27,25 +27,25 @@ pub fn read_document(alloc: Global, bytes: &[u8]) -> Result<Table, DocumentFault
     ensures refused { result ≡ Err fault.Text → document_of bytes.now ≡ None }
     ensures heavy { spec.is_too_heavy bytes.now ≡ true → result ≡ Err fault.Memory }
 {
-    if is_too_heavy(bytes) {
-        return Err(DocumentFault::Memory);
-    }
     if let Some(rest) = below_comments(bytes) {
         match table_of(alloc, rest) {
-            Ok(table) => return Ok(table),
-            Err(DocumentFault::Memory) => return Err(DocumentFault::Memory),
             // No law says that what is no document without its comments is none with them.
             Err(DocumentFault::Text) => {}
+            read => return read,
         }
     }
     table_of(alloc, bytes)
 }
 
-/// The table that bytes are, whatever they weigh.
+/// The table that bytes are, unless they weigh too much.
 fn table_of(alloc: Global, bytes: &[u8]) -> Result<Table, DocumentFault>
     ensures read { IfOk result (λ t. document_of bytes.now ≡ Some (table_view t)) }
     ensures refused { result ≡ Err fault.Text → document_of bytes.now ≡ None }
+    ensures heavy { spec.is_too_heavy bytes.now ≡ true → result ≡ Err fault.Memory }
 {
+    if is_too_heavy(bytes) {
+        return Err(DocumentFault::Memory);
+    }
     match toml::table_from_slice(alloc, bytes) {
         Ok(table) => Ok(table),
         Err(error) if error.is_memory() => Err(DocumentFault::Memory),

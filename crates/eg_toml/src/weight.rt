@@ -59,6 +59,9 @@ const NAME: u128 = 32;
 /// What each further name weighs.
 const NAME_MORE: u128 = 27_000;
 
+/// Among so many bytes a line feed is looked for one by one, in less time than by `memchr`.
+const NEAR: usize = 8;
+
 /// What is known behind some bytes of a document. Contracts see a `Weighed`.
 #[derive(Drop)]
 struct Scale {
@@ -94,13 +97,34 @@ pub fn is_too_heavy(bytes: &[u8]) -> bool
         if scale.weight > HEAVIEST {
             return true;
         }
-        rest = scale.past_comment(behind);
+        rest = scale.past_comments(behind);
     }
     false
 }
 
 /// How many bytes stand before the first line feed, or how many there are.
 fn line_length(bytes: &[u8]) -> usize
+    ensures within { result ≤ length bytes.now }
+    ensures before { All (λ byte. byte ≢ 10) (take result bytes.now) }
+{
+    let near = near_length(bytes);
+    if near < NEAR { near } else { far_length(bytes) }
+}
+
+/// The same, or `NEAR` if that is less.
+fn near_length(bytes: &[u8]) -> usize
+    ensures within { result ≤ length bytes.now }
+    ensures before { All (λ byte. byte ≢ 10) (take result bytes.now) }
+{
+    bytes
+        .iter()
+        .take(NEAR)
+        .take_while(|byte| **byte != b'\n')
+        .count()
+}
+
+/// The same as `line_length`, in less time for long lines and in more for short ones.
+fn far_length(bytes: &[u8]) -> usize
     ensures within { result ≤ length bytes.now }
     ensures before { All (λ byte. byte ≢ 10) (take result bytes.now) }
 {
@@ -133,22 +157,27 @@ impl Scale {
         ensures { self.new ≡ spec.weighed_on self.old byte }
     {
         let place = self.place.settled(byte);
-        if place == Place::Outside {
+        // White space and the begin of a comment weigh nothing.
+        if place == Place::Outside && !is_between(byte) {
             self.put_outside(byte);
         }
         self.place = place.behind(byte);
     }
 
     /// What is left of the bytes that come next without the rest of the comment that they stand in, if any,
-    /// which weighs nothing.
-    fn past_comment<'a>(&self, bytes: &'a [u8]) -> &'a [u8]
+    /// and the comments on the lines below, which weigh nothing.
+    fn past_comments<'a>(&self, bytes: &'a [u8]) -> &'a [u8]
         ensures same { fold spec.weighed_on self.now result.now ≡ fold spec.weighed_on self.now bytes.now }
         ensures short { length result.now ≤ length bytes.now }
     {
-        match self.place {
-            Place::Comment => &bytes[line_length(bytes)..],
-            _ => bytes,
+        let Place::Comment = self.place else {
+            return bytes;
+        };
+        let mut rest = &bytes[line_length(bytes)..];
+        while let [b'\n', b'#', below @ ..] = rest {
+            rest = &below[line_length(below)..];
         }
+        rest
     }
 
     /// Weighs one byte more, which stands outside of comments and texts.

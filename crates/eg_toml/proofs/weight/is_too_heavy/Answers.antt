@@ -21,11 +21,11 @@ pub loop-rest-preserved : goal.loop-rest-preserved
 loop-rest-preserved c =
     let w = c.loop-rest.scale in let after = c.put.new.self in
     let bytes = c.args.bytes.now in let rest = c.loop-rest.rest.now in let behind = drop 1 rest in
-    let left = c.past_comment-rest.result.now in
+    let left = c.past_comments-rest.result.now in
     let some = c.in-len1-up.len_at_least in let within = c.loop-rest.invariant.left in
     let shorter : length left ≤ length behind =
-    subst (λ slice. length left ≤ length slice) (slice_from 1 rest) c.past_comment-rest.ensures.short in
-    let same = c.past_comment-rest.ensures.same ∙ ap (fold weighed_on after) (slice_from 1 rest) in
+    subst (λ slice. length left ≤ length slice) (slice_from 1 rest) c.past_comments-rest.ensures.short in
+    let same = c.past_comments-rest.ensures.same ∙ ap (fold weighed_on after) (slice_from 1 rest) in
     record {
       whole = whole_on w after bytes rest behind left (slice_index rest 0) (first rest some) c.put.ensures same c.loop-rest.invariant.whole;
       small = subst (λ w. w.weight ≤ heaviest) c.scale.view_is c.if-scale-gt-HEAVIEST.false;
