@@ -11,6 +11,10 @@ use std::marker::Model;
 /// How many bytes are asked of a file at once.
 const PIECE: usize = 8192;
 
+/// For how many bytes room is taken at once where a file is longer than a piece: room that grows step by step
+/// is moved, with what was read so far, and room that nothing is put in costs next to nothing.
+const ROOM: usize = 262_144;
+
 /// A store of files that are opened by their names, such as the files of the system. Its files are told where
 /// its opener tells them, and it isn't sure.
 ///
@@ -110,6 +114,9 @@ fn append_from<F: Read>(
         match file.read(&mut piece[..room]) {
             Ok(0) => return Ok(()),
             Ok(count) => {
+                if taken == PIECE {
+                    into.reserve(ROOM.min(most - taken))?;
+                }
                 into.extend_from_slice(&piece[..count])?;
                 taken += count;
             }

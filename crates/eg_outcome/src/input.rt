@@ -73,8 +73,7 @@ pub(crate) fn undriven_for<S: Store>(
     ensures no_memory { IfErr result (λ end. TellsNoMemory end.outcome) }
     ensures keeps { KeepsFiles (change_of S.shows store.old store.new) result }
 {
-    let none: [Drive; 0] = [];
-    match SharedItems::of(alloc, &none) {
+    match SharedItems::of(Vec::new(alloc)) {
         Ok(drive) => with_image(alloc, run, plan, drive, store),
         Err(_) => Err(ended(Outcome::Memory, plan)),
     }

@@ -24,7 +24,7 @@ fn rows_without_resets(alloc: Global, drive: &[Drive]) -> Result<SharedItems<Dri
     for row in drive {
         rows.push(without_reset(row))?;
     }
-    SharedItems::of(alloc, &rows)
+    SharedItems::of(rows)
 }
 
 /// This drive row, but without a reset of the unit.

@@ -85,7 +85,7 @@ impl Traces {
     {
         self.last = None;
         let rows = read_trace(alloc, bytes.as_slice())?;
-        let Ok(drive) = self.drives.keep(alloc, &rows) else {
+        let Ok(drive) = self.drives.keep(rows) else {
             return Err(TraceFault::Memory);
         };
         if let Some(shared) = drive.share() {

@@ -26,18 +26,18 @@ impl Drives {
         }
     }
 
-    /// A drive of these rows, which is shared with one that was kept before where that has the same. Rows are
+    /// The drive of these rows, shared with one that was kept before where that has the same. Rows are
     /// compared only where the numbers are equal. NoMemory is its one refusal.
-    pub fn keep(&mut self, alloc: Global, rows: &[Drive]) -> Result<SharedItems<Drive>, NoMemory>
-        ensures { IfOk result (λ drive. drive ≡ rows.now) }
+    pub fn keep(&mut self, rows: Vec<Drive>) -> Result<SharedItems<Drive>, NoMemory>
+        ensures { IfOk result (λ drive. drive ≡ rows.items) }
     {
         let first = &rows[..rows.len().min(SAMPLE)];
         let last = &rows[rows.len() - first.len()..];
         let number = number_of_drive(number_of_drive(rows.len() as u64, first), last);
         if let Some(drive) = self.by_number.get(&number) {
-            return share_or_copy(alloc, drive, rows);
+            return share_or_own(drive, rows);
         }
-        let drive = SharedItems::of(alloc, rows)?;
+        let drive = SharedItems::of(rows)?;
         if let Some(kept) = drive.share() {
             self.by_number.insert(number, kept)?;
         }
@@ -45,17 +45,16 @@ impl Drives {
     }
 }
 
-/// A drive of these rows, which is this one, shared, where it has the same.
-fn share_or_copy(
-    alloc: Global,
+/// The drive of these rows, which is this one, shared, where it has the same.
+fn share_or_own(
     drive: &SharedItems<Drive>,
-    rows: &[Drive],
+    rows: Vec<Drive>,
 ) -> Result<SharedItems<Drive>, NoMemory>
-    ensures { IfOk result (λ drive. drive ≡ rows.now) }
+    ensures { IfOk result (λ drive. drive ≡ rows.items) }
 {
-    match shared_if_same(drive, rows) {
+    match shared_if_same(drive, &rows) {
         Some(same) => Ok(same),
-        None => SharedItems::of(alloc, rows),
+        None => SharedItems::of(rows),
     }
 }
 

@@ -2,12 +2,11 @@
 ghost use Rattle.std.specs.Prelude.{◌≡◌, IfOk, IfSome};
 
 use eg_base::NoMemory;
-use std::alloc::Global;
 use std::marker::Model;
 use std::rc::RcSlice;
 
-/// Values in a row, which several may own: to share them is meant to copy none. Room is taken for as many as
-/// there are. Contracts see the list of them, and none says what is really shared.
+/// Values in a row, which several may own: neither to make one nor to share it is meant to copy a value. Room
+/// is kept for as many as there are. Contracts see the list of them, and none says what is really shared.
 #[derive(Drop)]
 pub struct SharedItems<T: Copy> {
     items: RcSlice<T>,
@@ -23,11 +22,16 @@ impl<T: Copy> Model for SharedItems<T> {
 }
 
 impl<T: Copy> SharedItems<T> {
-    /// A copy of these items, in their order. Refused only where memory runs out.
-    pub fn of(alloc: Global, items: &[T]) -> Result<SharedItems<T>, NoMemory>
-        ensures { IfOk result (λ shared. shared ≡ items.now) }
+    /// The items of this vector, in its order, without the room that it has for more. Refused only where
+    /// memory runs out, or where the heap doesn't take that room back.
+    pub fn of(mut items: Vec<T>) -> Result<SharedItems<T>, NoMemory>
+        ensures { IfOk result (λ shared. shared ≡ items.items) }
     {
-        let items = RcSlice::from_slice(alloc, items)?;
+        items.shrink_to_fit();
+        if items.len() < items.capacity() {
+            return Err(NoMemory);
+        }
+        let items = RcSlice::from_vec(items)?;
         Ok(SharedItems { items })
     }
 
