@@ -12,3 +12,4 @@ pub mod Inputs
 pub mod Runs
 pub mod Shown
 pub mod Notes
+pub mod Trusted
