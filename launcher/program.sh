@@ -67,22 +67,27 @@ in_git() {
   (unset "${!GIT_@}" && cd -- "$top" && GIT_OPTIONAL_LOCKS=0 exec git -c core.fsmonitor= --git-dir=.git "$@") 2>/dev/null
 }
 make_work() { [ -n "$work" ] || work=$(mktemp -d -- "$kept/egasim.new.XXXXXX"); }
-# Notes, where it can, the files and folders on which the choice of the program rests, and their stamps at this time.
+# Notes, where it can, the files and folders on which the choice of the program rests, and their stamps at this time; what
+# has a line feed in its name stands there as what can't be, so that no stamps are noted.
 note_stamps() {
   noted_at=$(date +%s)
-  make_work && {
-    (cd -- "$top" && sources -print0)
-    [ ! -e "$top/release/egasim.sum" ] || printf '%s\0' release/egasim.sum
-    [ -z "$rt" ] || printf '%s\0' "${rt%/*}/../KIT-ID"
-  } >"$work/egasim.files" && noted_stamps=$(stamps <"$work/egasim.files") || noted_stamps=''
+  [[ $rt != *$'\n'* ]] && make_work && {
+    (cd -- "$top" && sources -path 'crates/*/proofs' ! -path 'crates/*/*/*' -prune -o \
+      -name $'*\n*' -exec echo HANDLES/ \; -o -print) | sed 's,^,../,; s,^\.\./crates/,,'
+    [ ! -e "$top/release/egasim.sum" ] || echo ../release/egasim.sum
+    [ -z "$rt" ] || echo "${rt%/*}/../KIT-ID"
+  } | (cd -- "$work" && awk '{ name[NR] = $0 }
+    END { for (i = 1; i <= NR; i++) print name[i] >("egasim.files." 1 + (i > NR / 2)) }') &&
+    noted_stamps=$( (stamps "$work/egasim.files.1") && stamps "$work/egasim.files.2") || noted_stamps=''
 } 2>/dev/null
 
 # Keeps these stamps, so that the next call reads no sources, if each was two seconds old: a younger file may change once
 # more within its second.
 keep_stamps() {
+  local name
   [ -n "$noted_stamps" ] && printf '%s\n' "$noted_stamps" >"$work/egasim.stamps" &&
-    awk -v now="$noted_at" '$3 + 2 > now { exit 1 }' "$work/egasim.stamps" &&
-    mv -fT -- "$work/egasim.files" "$kept/egasim.files" && mv -fT -- "$work/egasim.stamps" "$kept/egasim.stamps"
+    awk -v now="$noted_at" '$2 + 2 > now { exit 1 }' "$work/egasim.stamps" &&
+    for name in files.1 files.2 stamps; do mv -fT -- "$work/egasim.$name" "$kept/egasim.$name" || return; done
 } 2>/dev/null
 
 # Whether release/ carries the program of these sources, by the kit that it names; sets `origin`, and then `sum` and `kit`.
