@@ -1,19 +1,21 @@
 """The tables of a study, joined to one, and what they come to by class."""
 
-import codecs
-import csv
-import itertools
 import os
+import re
 import sys
 from collections import Counter
+from operator import itemgetter
 
 from lib.detecting import HEADS, first_of, matrix
 from lib.files import read, sum_of, sum_of_file, text_of, written
 from lib.keeping import calls_kept, files_of
 from lib.runs import lacking
-from lib.studies import COLUMNS, called, program_of, words_of
+from lib.studies import called, line_of, program_of, words_of
 from lib.tool import as_noted, fail
 from lib.units import Units, units_of
+
+ROW = re.compile(r'[^"\n]*(?:"[^"]*"[^"\n]*)*\n')  # of a plan: what stands in quotes may go over lines
+SUMMED = ("class", "onset", "acted", "first", "confirmed", "stretch", "reaction", "settled", "bound")  # columns of `table`
 
 
 def join(path, tick=None, folder=None):
@@ -85,37 +87,32 @@ def bounds_of(path):
 
 def write_joined(path, numbers):
     """Writes study.csv of these campaigns and matrix.csv, and returns the summaries by class."""
-    classes, firsts, writer = {}, Counter(), None
+    classes, firsts = {}, Counter()
     with written(f"{path}/study.csv") as file:
         for number in numbers:
-            for plan, row in rows_of(path, number):
-                if not writer:
-                    writer = writer_of(file)
-                    writer.writerow(["run", *COLUMNS, *list(row)[1:]])
-                writer.writerow([*plan.values(), *list(row.values())[1:]])
-                if row["class"] not in classes:
-                    classes[row["class"]] = Summary()
-                classes[row["class"]].add(row)
-                firsts[row["class"], first_of(row)] += 1
+            lines, alike = rows_of(path, number)
+            file.write("".join(lines if number == numbers[0] else lines[1:]).encode())
+            for row, count in alike:
+                classes.setdefault(row["class"], Summary()).add(row, count)
+                firsts[row["class"], first_of(row)] += count
     with written(f"{path}/matrix.csv") as file:
-        writer_of(file).writerows([HEADS, *matrix(firsts)])
+        file.writelines(line_of(row).encode() for row in [HEADS, *matrix(firsts)])
     return classes
 
 
-def writer_of(file):
-    return csv.writer(codecs.getwriter("utf-8")(file), lineterminator="\n")
-
-
 def rows_of(path, number):
-    """The rows of a campaign: what the plan has, and what the table has, both by their columns."""
-    with (open(f"{path}/campaigns/{number}.csv", encoding="utf-8", newline="") as planned,
-          open(f"{path}/tables/{number}.csv", encoding="utf-8", newline="") as played):
-        planned, played = csv.reader(planned), csv.reader(played)
-        of_plan, of_table = next(planned, []), next(played, [])
-        for plan, row in itertools.zip_longest(planned, played):
-            if not plan or not row or plan[0] != row[0] or len(row) != len(of_table):
-                fail(f"campaign {number}: the table has other runs than the plan")
-            yield dict(zip(of_plan, plan)), dict(zip(of_table, row))
+    """The rows of a campaign below their heads, what was planned before what was played; and what a summary needs of a row, with
+    the number of rows that are alike in that. In a table nothing is quoted (docs/FORMATS.md, F30)."""
+    planned = ROW.findall(text_of(f"{path}/campaigns/{number}.csv"))
+    played = [line.partition(",") for line in text_of(f"{path}/tables/{number}.csv").splitlines()]
+    cells = [rest.split(",") for _, _, rest in played]
+    if len(planned) != len(played) or not all(map(str.startswith, planned, [f"{run}," for run, _, _ in played])) \
+            or len({len(row) for row in cells}) > 1:
+        fail(f"campaign {number}: the table has other runs than the plan")
+    places = {head: place for place, head in enumerate(cells[0])}
+    alike = Counter(map(itemgetter(*[places[head] for head in SUMMED]), cells[1:]))
+    return ([f"{plan[:-1]},{rest}\n" for plan, (_, _, rest) in zip(planned, played)],
+            [(dict(zip(SUMMED, row)), count) for row, count in alike.items()])
 
 
 class Summary:
@@ -125,12 +122,13 @@ class Summary:
         self.runs = self.unacted = self.without = self.unsettled = self.before_cut = self.stretch = 0
         self.reaction = None
 
-    def add(self, row):
-        self.runs += 1
-        self.unacted += row["acted"] == "0"
-        self.without += row["settled"] == ""
-        self.unsettled += row["settled"] == "0"
-        self.before_cut += lacking(row) is None  # it shows that R is kept under its fault, as a report judges it
+    def add(self, row, count):
+        """Adds so many rows that are alike."""
+        self.runs += count
+        self.unacted += count * (row["acted"] == "0")
+        self.without += count * (row["settled"] == "")
+        self.unsettled += count * (row["settled"] == "0")
+        self.before_cut += count * (lacking(row) is None)  # it shows that R is kept under its fault, as a report judges it
         self.stretch = max(self.stretch, int(row["stretch"]))
         if row["reaction"]:
             self.reaction = max(self.reaction or 0, int(row["reaction"]))

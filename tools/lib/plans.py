@@ -105,30 +105,31 @@ def drawn(draws, key, allowed, length):
     return sorted(set(values)) if key == "after" else values
 
 
+def drawn_runs(draws, allowed, count):
+    """The values of so many runs, each key's of what drawn_from gives for it."""
+    for _ in range(count):
+        yield [drawn(draws, *one) for one in allowed]
+
+
 def faults_on(plan, draws, ticks):
-    """Each fault that is played on a drive of so many ticks, as campaigns have it; None is a run without one."""
+    """Each fault of the plan on a drive of so many ticks: its class, its keys, and run by run the values of these."""
     for fault in plan["fault"]:
         kind, count = fault["class"], fault.get("draw")
         spec = {key: value for key, value in fault.items() if key not in ("class", "draw")}
         if kind == "none":
-            yield None
+            yield kind, [], [()]
         elif count is None:
-            lists = [choices(kind, key, value, ticks - 1) for key, value in spec.items()]
-            for values in itertools.product(*lists):
-                yield {"class": kind, **dict(zip(spec, values))}
+            yield kind, list(spec), itertools.product(*[choices(kind, key, value, ticks - 1) for key, value in spec.items()])
         else:
             allowed = [(key, *drawn_from(kind, key, value, ticks - 1)) for key, value in spec.items()]
-            for _ in range(count):
-                yield {"class": kind, **{one[0]: drawn(draws, *one) for one in allowed}}
+            yield kind, list(spec), drawn_runs(draws, allowed, count)
 
 
-def runs_of(plan, ticks):
-    """The runs of the plan, those of one drive, image, slice plan and engine one after the other."""
+def groups_of(plan, ticks):
+    """Each drive of the plan with each image, slice plan and engine, and the faults under which they are played."""
     draws = random.Random(plan["seed"])
-    groups = itertools.product(plan["drives"], plan["images"], range(len(plan["slices"])), plan["engines"])
-    for drive, image, number, engine in groups:
-        for fault in faults_on(plan, draws, ticks[drive]):
-            yield drive, image, number, engine, fault
+    for group in itertools.product(plan["drives"], plan["images"], range(len(plan["slices"])), plan["engines"]):
+        yield *group, faults_on(plan, draws, ticks[group[0]])
 
 
 def onsets_of(text):

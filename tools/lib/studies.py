@@ -6,12 +6,14 @@ import io
 import itertools
 import os
 import re
+from collections import deque
 from concurrent.futures import ThreadPoolExecutor
 
 from lib.campaigns import Campaign, keys_text, run_text
 from lib.files import TOOLS, read, room_in, sum_of
-from lib.plans import PARAMETERS, checked_plan, runs_of
+from lib.plans import PARAMETERS, checked_plan, groups_of
 from lib.program import call, program
+from lib.toml import toml_text
 from lib.tool import fail
 from lib.units import beside
 
@@ -42,11 +44,10 @@ class Folder:
     def put_campaign(self, campaign):
         """Writes a campaign: what the program is to try then."""
         self.count += 1
+        self.runs += len(campaign.texts)
         name = f"campaigns/{self.count:05}"
-        rows = io.StringIO(newline="")
-        csv.writer(rows, lineterminator="\n").writerows([["run", *COLUMNS], *campaign.rows])
         self.put(f"{name}.toml", "".join(campaign.texts).encode())
-        self.put(f"{name}.csv", rows.getvalue().encode())
+        self.put(f"{name}.csv", "".join([line_of(["run", *COLUMNS]), *campaign.rows]).encode())
         # Behind the program, in the order in which lib/keeping.py names what a command reads.
         used = ["egasim", *(one for one in [CALIBRATION] if one in self.sums), f"{name}.toml", *campaign.inputs]
         self.put(f"{name}.sum", "".join(f"{self.sums[one]}  {one}\n" for one in used).encode())
@@ -100,7 +101,9 @@ def write_study(name, target):
         path = os.path.join(room, "study")
         os.mkdir(path)
         folder = Folder(path)
-        put_campaigns(folder, plan, *put_inputs(folder, plan, name))
+        drives, images = put_inputs(folder, plan, name)
+        ticks = ticks_of_drives(folder, drives, images, plan["calibration"])
+        put_campaigns(folder, campaigns_of(runs_of(plan, drives, images, ticks)))
         manifest = folder.manifest().encode()
         folder.put("MANIFEST", manifest)
         if not renamed(path, target) and (
@@ -149,37 +152,62 @@ def copied(folder, kind, names, ending):
     return places
 
 
-def put_campaigns(folder, plan, drives, images):
-    """Writes all campaigns. The program tries one while the next is made; the first one that it refuses is told."""
-    tried = None
-    with ThreadPoolExecutor(1) as pool:
+def put_campaigns(folder, campaigns):
+    """Writes all campaigns. The program tries some while the next is made; the first one that it refuses is told."""
+    tried, most = deque(), os.cpu_count() or 1
+    with ThreadPoolExecutor(most) as pool:
         try:
-            for campaign in campaigns_of(folder, plan, drives, images):
-                put = folder.put_campaign(campaign)
-                if tried:
-                    tried.result()
-                tried = pool.submit(folder.try_campaign, *put)
+            for campaign in campaigns:
+                tried.append(pool.submit(folder.try_campaign, *folder.put_campaign(campaign)))
+                if len(tried) > most:
+                    tried[0].result()
+                    tried.popleft()
         finally:
-            if tried:
-                tried.result()
+            for one in tried:
+                one.result()
 
 
-def campaigns_of(folder, plan, drives, images):
-    ticks = ticks_of_drives(folder, drives, images, plan["calibration"])
+def campaigns_of(runs):
+    """The campaigns that these runs fill. Each run has its text, its row, its inputs and the ticks of its drive."""
     campaign = Campaign()
-    for (drive, image, number, engine), runs in itertools.groupby(runs_of(plan, ticks), lambda run: run[:4]):
-        alike = keys_text({"trace": drives[drive], "image": images[image], "slices": plan["slices"][number], "engine": engine})
-        cells, inputs = [name_cell(drive), name_cell(image), number, engine], [drives[drive], images[image]]
-        for fault in (run[4] or {} for run in runs):
-            folder.runs += 1
-            name = f"r{folder.runs:07}"
-            text = run_text({"name": name}) + alike + (keys_text({"faults": [fault]}) if fault else "")
-            if not campaign.has_room(text, ticks[drive]):
-                yield campaign
-                campaign = Campaign()
-            values = [cell(fault[key]) if key in fault else "" for key in PARAMETERS]
-            campaign.add(text, [name, *cells, *values], inputs, ticks[drive])
+    for text, row, inputs, ticks in runs:
+        if not campaign.has_room(text, ticks):
+            yield campaign
+            campaign = Campaign()
+        campaign.add(text, row, inputs, ticks)
     yield campaign
+
+
+def runs_of(plan, drives, images, ticks):
+    """Each run of a plan, as campaigns_of takes it. What is alike under a fault is written once, and % puts the values in."""
+    numbers = itertools.count(1)
+    for drive, image, place, engine, faults in groups_of(plan, ticks):
+        alike = keys_text({"trace": drives[drive], "image": images[image], "slices": plan["slices"][place], "engine": engine})
+        cells, inputs = [name_cell(drive), name_cell(image), place, engine], [drives[drive], images[image]]
+        for kind, keys, values in faults:
+            text, row = text_form(alike, kind, keys), row_form(cells, keys)
+            order = [keys.index(key) for key in PARAMETERS if key in keys]
+            for one, number in zip(values, numbers):  # in this order no number is lost
+                yield text % (number, *map(toml_text, one)), row % (number, *[cell(one[key]) for key in order]), inputs, ticks[drive]
+
+
+def text_form(alike, kind, keys):
+    """The text of a run under a fault, with signs for % in place of its number and of the fault's values."""
+    fault = keys_text({"faults": [{"class": kind, **dict.fromkeys(keys, "%s")}]}).replace('"%s"', "%s") if keys else ""
+    return run_text({"name": "r%07d"}) + alike.replace("%", "%%") + fault
+
+
+def row_form(cells, keys):
+    """The row of such a run, likewise. No value that the program takes needs quotes."""
+    alike = [str(one).replace("%", "%%") for one in cells]
+    return line_of(["r%07d", *alike, *("%s" if key in keys else "" for key in PARAMETERS)])
+
+
+def line_of(cells):
+    """A line of a table. The writer quotes what has a sign of its own line end in it, a carriage return too."""
+    line = io.StringIO(newline="")
+    csv.writer(line, lineterminator="\r\n").writerow(cells)
+    return f"{line.getvalue()[:-2]}\n"
 
 
 def ticks_of_drives(folder, drives, images, calibration):
@@ -197,9 +225,8 @@ def ticks_of_drives(folder, drives, images, calibration):
 
 
 def cell(value):
-    if isinstance(value, list):
-        return " ".join(map(cell, value))
-    return str(value).lower() if isinstance(value, bool) else str(value)
+    """A value in a table: a number, a truth value, or a list of these."""
+    return (" ".join(map(str, value)) if isinstance(value, list) else str(value)).lower()
 
 
 def name_cell(name):

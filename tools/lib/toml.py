@@ -46,10 +46,10 @@ def parts_of(value):
 
 def toml_text(value):
     """A text, number, truth value or list as TOML writes it. A table is written inline."""
+    if type(value) is int:
+        return str(value)
     if isinstance(value, bool):
         return "true" if value else "false"
-    if isinstance(value, int):
-        return str(value)
     if isinstance(value, str):
         return f'"{NOT_PLAIN.sub(number_of_character, value)}"'
     if isinstance(value, list):

@@ -14,11 +14,10 @@ from in_folder import InFolder
 from notes import note_of
 
 HEAD = "run,class,onset,acted,first,confirmed,stretch,reaction,settled,bound"
-PLANNED = {"00001": "run,drive,image\nr1,a.csv,i.hex\nr2,./=1.csv,i.hex\n", "00002": "run,drive,image\nr3,a.csv,i.hex\n"}
+PLANNED = {"00001": 'run,drive,image\nr1,a.csv,i.hex\nr2,"./=1,""b""\n\r.csv",i.hex\n', "00002": "run,drive,image\nr3,a.csv,i.hex\n"}
 PLAYED = {"00001": f"{HEAD}\nr1,none,,,torque,9,5,1,1,34\nr2,halt,3,1,,9,30,20,1,34\n",
           "00002": f"{HEAD}\nr3,halt,90,0,,,0,,,34\n"}
 STAMP = "0a  egasim\n0b  campaigns/{0}.toml\n"
-JOINED = """run,drive,image,slices,engine,add,after,at,every,mask,module,offset,opens,path,questions,track,values,word,"""
 
 
 def limits(status=0, out=b"reaction 34\nstretch 38\n", err=b""):
@@ -51,10 +50,11 @@ class Joining(InFolder):
     def test_table_has_what_was_planned_and_what_was_played(self):
         out, err, note = said_by(join, "s")
         self.assertEqual((err, note), ("", None))
-        self.assertEqual(read("s/study.csv").decode().splitlines()[1:], [
-            "r1,a.csv,i.hex,none,,,torque,9,5,1,1,34", "r2,./=1.csv,i.hex,halt,3,1,,9,30,20,1,34",
-            "r3,a.csv,i.hex,halt,90,0,,,0,,,34"])
-        self.assertEqual(read("s/study.csv").decode().splitlines()[0], JOINED + HEAD.removeprefix("run,"))
+        self.assertEqual(read("s/study.csv").decode(), f"""run,drive,image,{HEAD.removeprefix("run,")}
+r1,a.csv,i.hex,none,,,torque,9,5,1,1,34
+r2,"./=1,""b""\n\r.csv",i.hex,halt,3,1,,9,30,20,1,34
+r3,a.csv,i.hex,halt,90,0,,,0,,,34
+""")
         self.assertEqual([line.split() for line in out.splitlines()[1:]],
                          [["none", "1", "0", "0", "0", "0", "1", "34", "5", "38"],
                           ["halt", "2", "1", "1", "0", "1", "20", "34", "30", "38"]])
@@ -78,23 +78,22 @@ class Joining(InFolder):
         self.assertEqual((said_by(join, "s", None, "m")[2], os.path.exists("m")), ("s/study.csv has 1 of 2 campaigns", False))
 
     def test_two_at_once_write_what_one_writes(self):
-        # So many rows that half of them are on the disk when the second call begins, which is through before the first.
+        # So many rows that most of them are on the disk when the second call begins, which is through before the first.
         runs = [f"r{number}" for number in range(5000)]
         self.put("s/campaigns/00001.csv", "run,drive,image\n" + "".join(f"{run},a.csv,i.hex\n" for run in runs))
         self.play("00001", f"{HEAD}\n" + "".join(f"{run},none,,,torque,9,5,1,1,34\n" for run in runs))
-        write_joined("s", ["00001"])
+        write_joined("s", list(PLANNED))
         whole, others = read("s/study.csv"), []
 
         def rows_with_another_call(path, number):
-            for place, row in enumerate(rows_of(path, number)):
-                if place == 2500 and not others:
-                    others.append("begun")
-                    write_joined("s", ["00001"])
-                    others.append(read("s/study.csv"))
-                yield row
+            if number == "00002" and not others:
+                others.append("begun")
+                write_joined("s", list(PLANNED))
+                others.append(read("s/study.csv"))
+            return rows_of(path, number)
 
         with mock.patch.object(joining, "rows_of", rows_with_another_call):
-            write_joined("s", ["00001"])
+            write_joined("s", list(PLANNED))
         self.assertEqual(others[1], whole)
         self.assertEqual(read("s/study.csv"), whole)
         self.assertEqual(sorted(os.listdir("s")), ["MANIFEST", "campaigns", "matrix.csv", "plan.toml", "study.csv", "tables"])
@@ -137,19 +136,31 @@ class Joining(InFolder):
                 self.assertEqual(note_of(join, "s"), note)
 
     def test_rows_belong_together(self):
-        self.assertEqual([(plan["drive"], row["class"]) for plan, row in rows_of("s", "00001")],
-                         [("a.csv", "none"), ("./=1.csv", "halt")])
-        for table in (f"{HEAD}\n", PLAYED["00001"] + "r9,none,,,torque,9,5,1,1,34\n", PLAYED["00001"].replace("r2", "r9")):
+        lines, alike = rows_of("s", "00001")
+        self.assertEqual(([line[:7] for line in lines], [(row["class"], count) for row, count in alike]),
+                         (["run,dri", "r1,a.cs", 'r2,"./='], [("none", 1), ("halt", 1)]))
+        more = PLAYED["00001"] + "r9,none,,,torque,9,5,1,1,34\n"
+        for table in ("", f"{HEAD}\n", more, more.replace("r9", ""), PLAYED["00001"].replace("r2", "r9"),
+                      PLAYED["00001"].replace("r2,", "r2,,"), PLAYED["00001"].replace("r2,", "r2\n"), f"{PLAYED['00001']}\n"):
             self.play("00001", table)
-            self.assertEqual(note_of(list, rows_of("s", "00001")), "campaign 00001: the table has other runs than the plan")
+            self.assertEqual(note_of(rows_of, "s", "00001"), "campaign 00001: the table has other runs than the plan")
+
+    def test_rows_that_are_alike_are_counted(self):
+        runs = [f"r{number}" for number in range(7)]
+        self.put("s/campaigns/00001.csv", "run,drive,image\n" + "".join(f"{run},{run}.csv,i.hex\n" for run in runs))
+        self.play("00001", f"{HEAD}\n" + "".join(f"{run},halt,{int(run[1]) % 2},1,,9,30,20,1,34\n" for run in runs))
+        self.assertEqual([(row["onset"], count) for row, count in rows_of("s", "00001")[1]], [("0", 4), ("1", 3)])
+        self.assertEqual(vars(write_joined("s", ["00001"])["halt"]), {"runs": 7, "unacted": 0, "without": 0, "unsettled": 0,
+                                                                      "before_cut": 7, "stretch": 30, "reaction": 20})
+        self.assertEqual(read("s/matrix.csv").decode().splitlines()[1], "halt,0,0,0,0,0,0,0,0,0,7")
 
     def test_summary_counts_by_class_and_tells_what_is_against_the_proof(self):
         halt, lapse = Summary(), Summary()
         row = {"class": "halt", "onset": "3", "acted": "1", "confirmed": "9", "stretch": "30", "reaction": "35",
                "settled": "1", "bound": "34"}
         for one in (row, row | {"reaction": "", "settled": "0", "stretch": "39"}, row | {"reaction": "34"}):
-            halt.add(one)
-        lapse.add(row | {"class": "lapse"})
+            halt.add(one, 1)
+        lapse.add(row | {"class": "lapse"}, 1)
         self.assertEqual((halt.runs, halt.unacted, halt.without, halt.unsettled), (3, 0, 0, 1))
         self.assertEqual((halt.before_cut, halt.stretch, halt.reaction), (1, 39, 35))
         out, err, _ = said_by(print_summary, {"halt": halt, "lapse": lapse}, (34, 38))

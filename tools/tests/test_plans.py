@@ -1,9 +1,10 @@
 """Plans, and the runs that they come to."""
 
+import random
 import unittest
 
-from lib.plans import (FAULTS, PARAMETERS, checked_plan, choices, drawn, drawn_from, faults_of, faults_on, numbers_of, onsets_of,
-                       runs_of)
+from lib.plans import (FAULTS, PARAMETERS, checked_plan, choices, drawn, drawn_from, drawn_runs, faults_of, faults_on, groups_of,
+                       numbers_of, onsets_of)
 from in_folder import InFolder
 from notes import note_of
 
@@ -71,8 +72,8 @@ class Faults(unittest.TestCase):
             self.assertEqual(note_of_fault(**{"class": "halt", "onset": 1, "draw": draw}),
                              "p: fault 1: draw, for each class, must be a whole number from 1 to 1000000")
         plan = {"fault": list(faults_of("p", 1, {"class": ["halt", "path1-closed"], "onset": [1, 2], "draw": 4}))}
-        kinds = [fault["class"] for fault in faults_on(plan, Counted(*[0.5] * 8), 10)]
-        self.assertEqual(kinds, ["halt"] * 4 + ["path1-closed"] * 4)
+        self.assertEqual([(kind, keys, list(values)) for kind, keys, values in faults_on(plan, Counted(*[0.5] * 8), 10)],
+                         [("halt", ["onset"], [[2]] * 4), ("path1-closed", ["onset"], [[2]] * 4)])
 
     def test_parameters_are_those_of_all_classes(self):
         self.assertEqual(PARAMETERS, ["add", "after", "at", "every", "mask", "module", "offset", "opens", "path", "questions",
@@ -126,26 +127,34 @@ class Drawn(unittest.TestCase):
         self.assertEqual(drawn_one(Counted(0.5), "halt", "onset", {"from": 0}, 9), 5)
         self.assertEqual(drawn_one(Counted(0.99), "halt", "onset", [3, 7], 9), 7)
 
+    def test_runs_are_drawn_one_after_the_other_and_key_by_key(self):
+        allowed = [("values", range(10), 2), ("onset", range(100, 110), None)]
+        runs = drawn_runs(Counted(0.0, 0.1, 0.2, 0.3, 0.4, 0.5), allowed, 2)
+        self.assertEqual(list(runs), [[[0, 1], 102], [[3, 4], 105]])
+
 
 class Runs(unittest.TestCase):
     def test_each_combination_is_played(self):
         plan = {"drives": ["a", "b"], "images": ["i"], "slices": [None, [[1]]], "engines": ["gasoline", "diesel"],
                 "seed": 1, "fault": [{"class": "none"}, {"class": "bus", "mask": [1, 2], "onset": {"from": 0}}]}
-        runs = list(runs_of(plan, {"a": 1, "b": 3}))
-        self.assertEqual(len(runs), 4 * (1 + 2 * 1) + 4 * (1 + 2 * 3))
-        self.assertEqual(runs[:3], [("a", "i", 0, "gasoline", None),
-                                    ("a", "i", 0, "gasoline", {"class": "bus", "mask": 1, "onset": 0}),
-                                    ("a", "i", 0, "gasoline", {"class": "bus", "mask": 2, "onset": 0})])
-        self.assertEqual([run[:4] for run in runs[::3][:4]], [("a", "i", number, engine) for number in (0, 1)
-                                                              for engine in ("gasoline", "diesel")])
+        groups = [(*group, [(*fault, list(values)) for *fault, values in faults])
+                  for *group, faults in groups_of(plan, {"a": 1, "b": 3})]
+        self.assertEqual([group[:4] for group in groups], [(drive, "i", number, engine) for drive in ("a", "b")
+                                                           for number in (0, 1) for engine in ("gasoline", "diesel")])
+        self.assertEqual(groups[0][4], [("none", [], [()]), ("bus", ["mask", "onset"], [(1, 0), (2, 0)])])
+        self.assertEqual(groups[4][4][1][2], [(mask, onset) for mask in (1, 2) for onset in (0, 1, 2)])
 
     def test_seed_decides_what_is_drawn(self):
         plan = {"drives": ["a"], "images": ["i"], "slices": [None], "engines": ["gasoline"], "seed": 1,
                 "fault": [{"class": "halt", "onset": {"from": 0}, "draw": 50}]}
-        runs = list(runs_of(plan, {"a": 1000}))
-        self.assertEqual(runs, list(runs_of(plan, {"a": 1000})))
-        self.assertNotEqual(runs, list(runs_of({**plan, "seed": 2}, {"a": 1000})))
-        self.assertTrue(all(0 <= fault["onset"] < 1000 for *_, fault in runs))
+
+        def onsets(seed):
+            for *_, faults in groups_of({**plan, "seed": seed}, {"a": 1000}):
+                return [onset for _, _, values in faults for onset, in values]
+
+        draws = random.Random(1)
+        self.assertEqual(onsets(1), [int(1000 * draws.random()) for _ in range(50)])
+        self.assertNotEqual(onsets(1), onsets(2))
 
 
 class Onsets(unittest.TestCase):

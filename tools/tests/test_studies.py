@@ -7,9 +7,12 @@ import threading
 from unittest import mock
 
 from lib import studies
+from lib.campaigns import run_text
 from lib.files import read, sum_of
 from lib.keeping import sums_of
-from lib.studies import Folder, called, cell, copied, name_cell, renamed, ticks_of_drives, words_of, write_study
+from lib.plans import PARAMETERS
+from lib.studies import (Folder, called, campaigns_of, cell, copied, line_of, name_cell, renamed, runs_of, ticks_of_drives,
+                         words_of, write_study)
 from in_folder import InFolder
 from notes import note_of
 
@@ -93,6 +96,42 @@ class Studies(InFolder):
 
     def test_numbers_in_a_row(self):
         self.assertEqual([cell(value) for value in (-5, True, [1, False], "", [])], ["-5", "true", "1 false", "", ""])
+
+    def test_names_in_a_row_are_quoted_where_they_must_be(self):
+        for name, quoted in (("a b", "a b"), ("a,b", '"a,b"'), ('"', '""""'), ("\n", '"\n"'), ("\r", '"\r"'), ("\u2028", "\u2028")):
+            self.assertEqual(line_of([name, 1, ""]), f"{quoted},1,\n")
+
+    def test_runs_of_a_fault_are_written_as_each_by_itself(self):
+        keys = {"track": [0, 3], "values": [[0], [5, -7]], "onset": [1, 2]}
+        plan = {"drives": ["a,%s.csv"], "images": ["100%"], "slices": [[["%d"]]], "engines": ["%"], "seed": 1,
+                "fault": [{"class": "none"}, {"class": "script", **keys}]}
+        runs = list(runs_of(plan, {"a,%s.csv": "d%"}, {"100%": "i"}, {"a,%s.csv": 9}))
+        faults = [[], *([{"class": "script", "track": track, "values": values, "onset": onset}]
+                        for track in keys["track"] for values in keys["values"] for onset in keys["onset"])]
+        alike = {"trace": "d%", "image": "i", "slices": [["%d"]], "engine": "%"}
+        self.assertEqual([run[0] for run in runs], [run_text({"name": f"r{number:07}", **alike, "faults": fault or None})
+                                                    for number, fault in enumerate(faults, 1)])
+        names = ["drive", "image", "slices", "engine", *PARAMETERS]
+        rows = [dict(zip(["run", *names], row)) for row in csv.reader(run[1] for run in runs)]
+        self.assertEqual([row["run"] for row in rows], [f"r{number:07}" for number in range(1, 10)])
+        self.assertEqual(rows[8], {**dict.fromkeys(names, ""), "run": "r0000009", "drive": "a,%s.csv", "image": "100%",
+                                   "slices": "0", "engine": "%", "track": "3", "values": "5 -7"})
+        self.assertEqual({(tuple(inputs), ticks) for *_, inputs, ticks in runs}, {(("d%", "i"), 9)})
+
+    def test_campaigns_are_as_full_as_their_limits_allow(self):
+        for ticks, counts in ((1, [1000, 1000, 1]), (1000, [1000, 1000, 1]), (1001, [999, 999, 3])):
+            runs = ((f"t{number}", f"r{number}", ["d"], ticks) for number in range(2001))
+            campaigns = list(campaigns_of(runs))
+            self.assertEqual([len(campaign.texts) for campaign in campaigns], counts)
+            self.assertEqual([row for campaign in campaigns for row in campaign.rows], [f"r{number}" for number in range(2001)])
+
+    def test_first_campaign_that_is_refused_is_told(self):
+        self.put("p.toml", PLAN.split("[[")[0] + '[[fault]]\nclass = "bus"\nonset = 0\nmask = { from = 1, to = 1500 }\n')
+        self.assertEqual(write_study("p.toml", "s"), (3000, 3, 0))
+        self.play(refused=["mask = 501,", "mask = 1400,"])  # of the first and the second
+        for processors in (1, 4, None):
+            with mock.patch.object(studies.os, "cpu_count", return_value=processors):
+                self.assertRegex(note_of(write_study, "p.toml", "t"), "^the plan makes a campaign that is refused: mask = 501,: record 3: ")
 
     def test_second_call_finds_the_folder(self):
         write_study("p.toml", "s")
