@@ -59,7 +59,7 @@ class Keeping(InFolder):
             f"{hashlib.sha256(content.encode()).hexdigest()}  {name}\n" for name, content in (("c.toml", CAMPAIGN), ("a.csv", "a"), ("i.hex", "i"))))
         subprocess.run(["sha256sum", "--quiet", "-c", "kept.sum"], cwd="k", check=True)
         self.assertEqual(self.keep("--again", "k"), (0, "k: egasim record c.toml a: the same\n", ""))
-        self.assertEqual(self.keep("k", "--", "egasim", "bound"), (1, "", "k is there already\n"))
+        self.assertEqual(self.keep("k", "--", "egasim", "bound"), (2, "", "k is there already\n"))
 
     def test_a_refusal_and_standard_input_are_kept_too(self):
         self.assertEqual(self.keep("k", "--", "egasim", "run", "gone.toml", program="false")[:2], (0, "k: egasim run gone.toml: status 1\n"))
@@ -68,7 +68,7 @@ class Keeping(InFolder):
         self.assertEqual(self.content("m/input"), "1,2\n")
         self.put("c.toml", "[[run")
         self.assertEqual(self.keep("n", "--", "egasim", "run", "c.toml", program="false")[0], 0)
-        self.assertEqual(self.keep("o", "--", "egasim", "run", "c.toml")[0], 1)
+        self.assertEqual(self.keep("o", "--", "egasim", "run", "c.toml")[0], 2)
 
     def test_each_difference_is_told(self):
         self.keep("k", "--", "egasim", "run", "c.toml")
@@ -83,10 +83,10 @@ class Keeping(InFolder):
     def test_what_was_changed_in_the_folder_is_refused(self):
         self.keep("k", "--", "egasim", "run", "c.toml")
         self.put("k/output", "better\n")
-        self.assertEqual(self.keep("--again", "k"), (1, "", "k/output isn't as it was made\n"))
+        self.assertEqual(self.keep("--again", "k"), (2, "", "k/output isn't as it was made\n"))
         self.put("k/kept.sum", "")
-        self.assertEqual(self.keep("--again", "k"), (1, "", "k/kept.sum lacks command\n"))
-        self.assertEqual(self.keep("--again", "gone"), (1, "", "cannot read gone/kept.sum: No such file or directory\n"))
+        self.assertEqual(self.keep("--again", "k"), (2, "", "k/kept.sum lacks command\n"))
+        self.assertEqual(self.keep("--again", "gone"), (2, "", "cannot read gone/kept.sum: No such file or directory\n"))
 
     def test_each_call_of_a_tool_is_kept_and_each_difference_told(self):
         self.assertEqual(self.kept_by_tool("k", "r.csv"), f"k, whose kept.sum has the SHA-256 {sum_of(read('k/kept.sum'))}")
@@ -107,10 +107,10 @@ class Keeping(InFolder):
             "version", "tool.sum", *(f"00001: egasim table c.toml: {name}" for name in ("read.sum", "status", "output")),
             *(f"00002: egasim replay: {name}" for name in ("status", "output"))])
         self.put("k/00002/output", "better\n")
-        self.assertEqual(self.keep("--again", "k"), (1, "", "k/00002/output isn't as it was made\n"))
+        self.assertEqual(self.keep("--again", "k"), (2, "", "k/00002/output isn't as it was made\n"))
         for line, note in (("00  ../c.toml", "k/kept.sum isn't as it was made"), (f"{sum_of(b'')}  00001/notes", "k/kept.sum lacks 00001/command")):
             self.put("k/kept.sum", f"{line}\n")
-            self.assertEqual(self.keep("--again", "k"), (1, "", f"{note}\n"))
+            self.assertEqual(self.keep("--again", "k"), (2, "", f"{note}\n"))
 
     def test_nothing_is_kept_of_a_tool_that_fails(self):
         self.assertRaises(SystemExit, self.kept_by_tool, "k", "r.csv", "false")
@@ -140,7 +140,7 @@ class Keeping(InFolder):
     def test_words_that_are_none(self):
         note = "FOLDER -- egasim COMMAND .. is wanted, or --again FOLDER; --help tells more\n"
         for words in (["k"], ["k", "egasim", "run"], ["k", "--", "run"], ["k", "--", "egasim"], ["--again"], ["--again", ""], ["", "--", "egasim", "run"]):
-            self.assertEqual(self.keep(*words), (1, "", note))
+            self.assertEqual(self.keep(*words), (2, "", note))
 
     def test_a_path_to_the_program_is_taken_and_one_to_another_is_not(self):
         self.put("d/egasim", "#!/bin/sh\n", 0o755)
@@ -155,9 +155,9 @@ class Keeping(InFolder):
         self.assertEqual(self.keep("p/k", "--", "p/bin/egasim", "bound", program="./p/lib/egasim/egasim")[0], 0)
         for way in ("d/egasim", "./gone/egasim", "p/bin/egasim"):
             self.assertEqual(self.keep("o", "--", way, "bound"),
-                             (1, "", f"{way} isn't the program that would be run, {os.path.realpath(shutil.which('echo'))}\n"))
+                             (2, "", f"{way} isn't the program that would be run, {os.path.realpath(shutil.which('echo'))}\n"))
         for way in ("l-egasim", "echo", "", "egasim/", "/"):
-            self.assertEqual(self.keep("o", "--", way, "bound")[0], 1)
+            self.assertEqual(self.keep("o", "--", way, "bound")[0], 2)
 
     def test_lines_that_differ(self):
         for old, new, lines in ((b"a\nb\n", b"a\nc\n", ["line 2 was 'b', and is 'c'"]), (b"a\n", b"a\nc\n", ["line 2 was '', and is 'c'"]),

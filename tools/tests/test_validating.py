@@ -107,5 +107,5 @@ class Validating(InFolder):
                             ("a --gate-log gone", "cannot read gone: No such file or directory")):
             done = subprocess.run([sys.executable, f"{TOOLS}/validate", *words.split()], capture_output=True, text=True,
                                   check=False, env=os.environ | {"EGASIM_PROGRAM": "/bin/true"})
-            self.assertEqual((done.returncode, done.stdout, done.stderr), (1, "", f"validate: {note}\n"))
+            self.assertEqual((done.returncode, done.stdout, done.stderr), (2, "", f"validate: {note}\n"))
             self.assertFalse(os.path.exists("a"))
