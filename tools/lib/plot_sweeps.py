@@ -50,7 +50,7 @@ def picture(files, *_, units=Units()):
     for place, (calibration, bound) in enumerate(bounds.items()):
         drawn.append(f"{bound} with lines "
                      + looks_of(LINES[place % len(LINES)], 2, 2 + 2 * (place % 2), f"R {by_which(calibration)}, {units.ticks(bound)}"))
-    names = [f"{kind}, no bound" if kind == "lapse" else kind for kind in classes]
+    names = [f"{kind}, no R" if kind == "lapse" else kind for kind in classes]
     return HEIGHT + ROW * (len(files) + len(bounds)), [
         "set style textbox opaque margins 0.3,0.3 noborder\n",
         f"set boxwidth 0.94 relative\nset style fill solid border lc rgb '{INK}'\nset grid noxtics\n",
