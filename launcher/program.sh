@@ -160,7 +160,7 @@ take_carried() {
   cp -- "$top/release/egasim" "$work/egasim" && chmod 700 "$work/egasim" || fail "can't copy release/egasim to $kept"
   compare_carried "$work/egasim"
   "$work/egasim" bound >/dev/null 2>&1 </dev/null ||
-    fail "the program carried in release/ can't run here: it needs Linux on x86-64 and glibc 2.34 or later"
+    fail "the program carried in release/ can't run here: it needs Linux on x86-64-v2 and glibc 2.34 or later"
   put carried || fail "can't write to $kept"
   say "runs the program carried in release/, which wasn't proved on this computer; --prove proves and builds it here"
 }

@@ -198,7 +198,7 @@ def sweeps(played):
     yield paragraph(Html("<code>none</code> counts the runs in which no watch finds anything. Where no excess is confirmed nothing "
                          "has to be cut, so on a sound drive this doesn't say that the monitoring failed. A path that can't open is "
                          "found by the start-up test after the next reset, and a sweep has none; which other faults may stay "
-                         "hidden tells docs/SAFETY.md, &quot;Terms beside those of ISO 26262&quot;."))
+                         "hidden tells docs/SAFETY.md, &quot;What can stay hidden&quot;."))
     for place, sweep in enumerate(played.sweeps):
         yield from sweep_part(place, sweep, int(played.limits["reaction"]), played.units)
     if played.not_asked:
