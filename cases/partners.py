@@ -1,7 +1,7 @@
 #!/usr/bin/env python3
 """The two engines of the bench (docs/CONCEPT.md, "Plant"), written from that page, as partners of `egasim couple`.
 
-    tools/couple 'cases/partners.py gasoline examples/reference.toml TRACE' CAMPAIGN RUN >record.csv"""
+    tools/partner 'cases/partners.py gasoline examples/calibration/reference.toml TRACE' CAMPAIGN RUN >record.csv"""
 
 import csv
 import sys

@@ -1,4 +1,4 @@
-# Read by the launcher, the gate and tools/release: where the program is kept, and whether anything has changed since
+# Read by the launcher, the gate and dist/release: where the program is kept, and whether anything has changed since
 # its checksums were compared. `top` is the top of the repository, maybe from the caller's folder.
 # shellcheck shell=bash
 export LC_ALL=C

@@ -1,4 +1,4 @@
-# Read by the launcher, the gate and tools/release, after kept.sh: which program is that of the sources as they stand. A
+# Read by the launcher, the gate and dist/release, after kept.sh: which program is that of the sources as they stand. A
 # sum has the checksum of sources with the kit's name, that of the program, and the kit's name. release/egasim.sum is
 # one; out/egasim.sum has above it where the program there is from, `proved here` or `carried`.
 # shellcheck shell=bash

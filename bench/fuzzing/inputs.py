@@ -92,7 +92,7 @@ COMMANDS = {
     COUPLING: (2, ["campaign", "image", "trace", "trace", *["answers"] * 4]),
 }
 
-with open(f"{TOP}/examples/reference.toml", "rb") as file_of_example:
+with open(f"{TOP}/examples/calibration/reference.toml", "rb") as file_of_example:
     REFERENCE = file_of_example.read()
 
 ANSWER = re.compile(rb"answer = (\d+)")

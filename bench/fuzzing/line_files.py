@@ -6,7 +6,7 @@ COLUMNS = ["pedal", "speed", "raise", "reset", "brake"]
 MOST_OF = {"pedal": 1000, "speed": 8000, "raise": 10000, "torque": 65535, "reset": 1, "brake": 1}
 EXAMPLES = {}
 for example in ("idle", "full", "follow", "probe", "trapped"):
-    with open(f"{TOP}/examples/{example}.hex", encoding="ascii") as file_of_example:
+    with open(f"{TOP}/examples/level_1/{example}.hex", encoding="ascii") as file_of_example:
         EXAMPLES[example] = file_of_example.read()
 
 
@@ -64,7 +64,7 @@ def broken_records(chance, rows):
 TRACKS = ["pedal1", "pedal2", "plate1", "plate2", "load1", "load2", "speed1", "speed2", "raise", "check"]
 CONTACTS = ["brake1", "brake2"]
 
-with open(f"{TOP}/examples/measured.csv", encoding="ascii") as file_of_example:
+with open(f"{TOP}/examples/measurement/measured.csv", encoding="ascii") as file_of_example:
     MEASURED = [line.split(",") for line in file_of_example.read().split("\n")[1:-1]]
 
 

@@ -12,7 +12,7 @@ MOST_NUMBER = 1000000  # in a record or of a threshold; docs/FORMATS.md allows l
 
 def calibration_of(name):
     """What a calibration file has, or that of the reference calibration."""
-    return toml_of(name or os.path.join(TOP, "examples", "reference.toml"))
+    return toml_of(name or os.path.join(TOP, "examples", "calibration", "reference.toml"))
 
 
 def threshold_of(calibration):

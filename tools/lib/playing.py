@@ -165,7 +165,7 @@ def own_files(calibration):
     paths = (os.path.realpath(module.__file__) for module in list(sys.modules.values()) if getattr(module, "__file__", None))
     own = (TOOLS, os.path.join(TOOLS, "lib"))
     modules = sorted(os.path.relpath(path, TOP) for path in paths if os.path.dirname(path) in own)
-    reference = [] if calibration else ["examples/reference.toml"]
+    reference = [] if calibration else ["examples/calibration/reference.toml"]
     return [*reference, *(f"docs/{name}" for name in DOCUMENTS), *modules, "tools/report_files/page.css"]
 
 

@@ -37,8 +37,8 @@ def kinds(folder):
         for name, (image, rows) in drives.items():
             with open(os.path.join(folder, f"{name}.csv"), "w", encoding="utf-8") as file:
                 file.write("\n".join(["pedal,speed,raise,reset", *rows, ""]))
-            campaign.write(f'[[run]]\nname = "{name}"\ntrace = "{name}.csv"\nimage = "examples/{image}.hex"\n')
-        campaign.write('[[run]]\nname = "stuck"\ntrace = "steady.csv"\nimage = "examples/late.hex"\n')
+            campaign.write(f'[[run]]\nname = "{name}"\ntrace = "{name}.csv"\nimage = "examples/level_1/{image}.hex"\n')
+        campaign.write('[[run]]\nname = "stuck"\ntrace = "steady.csv"\nimage = "examples/level_1/late.hex"\n')
         campaign.write('faults = [{ class = "path1-closed", onset = 3000 }]\n')
 
 
@@ -48,7 +48,7 @@ class Run:
     def __init__(self, folder, campaign, run, calibration):
         self.text = egasim(folder, "record", calibration, campaign, run["name"])
         self.rows = list(csv.DictReader(io.StringIO(self.text)))
-        with open(os.path.join(folder, calibration or "examples/reference.toml"), "rb") as file:
+        with open(os.path.join(folder, calibration or "examples/calibration/reference.toml"), "rb") as file:
             self.threshold = tomllib.load(file)["permit"]["threshold"]
         with open(os.path.join(folder, run["trace"]), encoding="utf-8") as file:
             self.resets = [tick for tick, row in enumerate(csv.DictReader(file)) if row.get("reset") == "1"]

@@ -1,4 +1,4 @@
-"""tools/couple: which program it starts, and what it leaves behind. A stand-in takes the program's part."""
+"""tools/partner: which program it starts, and what it leaves behind. A stand-in takes the program's part."""
 
 import os
 import shutil

@@ -9,7 +9,7 @@ from lib.files import TOP
 from lib.toml import toml_of
 from units import drawn_calibration
 
-REFERENCE = toml_of(f"{TOP}/examples/reference.toml")
+REFERENCE = toml_of(f"{TOP}/examples/calibration/reference.toml")
 
 
 class Differing(unittest.TestCase):

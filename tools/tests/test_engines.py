@@ -14,14 +14,14 @@ TOLD = "next_throttle,next_ignition,next_on,next_held\n"
 
 
 def engine_in_python():
-    """The class Engine of examples/turbo.py."""
+    """The class Engine of examples/own_engine/turbo.py."""
     held = {}
     exec(text_of(f"{EXAMPLES}/turbo.py").partition("\nengine, told =")[0], held)  # pylint: disable=exec-used
     return held["Engine"]
 
 
 def answers_in_python(drive, told, resets):
-    """What the engine in Python answers, as examples/turbo.py and tools/partner.py do."""
+    """What the engine in Python answers, as examples/own_engine/turbo.py and examples/own_engine/partner.py do."""
     engine = engine_in_python()()
     for row, (throttle, ignition, on, held) in zip(drive, told):
         if resets and row[3]:
@@ -34,7 +34,7 @@ def answers_in_python(drive, told, resets):
 class Engines(InFolder):
     def setUp(self):
         super().setUp()
-        self.mapping = text_of(f"{EXAMPLES}/engine_fmu.toml").replace("examples/turbo_drive.csv", "drive.csv")
+        self.mapping = text_of(f"{EXAMPLES}/engine_fmu.toml").replace("examples/own_engine/turbo_drive.csv", "drive.csv")
         self.put("engine.toml", self.mapping)
         self.put("drive.csv", "pedal,speed,raise\n" + "0,800,0\n" * 9)
 

@@ -1,4 +1,4 @@
-"""Tables that are joined, and what they come to. The study is written by hand; examples/study.sh has a real one."""
+"""Tables that are joined, and what they come to. The study is written by hand; cases/examples/study.sh has a real one."""
 
 import contextlib
 import io

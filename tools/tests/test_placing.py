@@ -80,7 +80,7 @@ class Placing(InFolder):
             self.assertEqual(note_of(with_values, "c.toml", {"permit.threshold": 1}), BY_HAND)
 
     def test_drawn_values_are_there_and_nothing_else_changed(self):
-        draws, text = random.Random(5), text_of(f"{TOP}/examples/reference.toml")
+        draws, text = random.Random(5), text_of(f"{TOP}/examples/calibration/reference.toml")
         places = [key for key, _ in spans(text) if not key.startswith("question") and key != "version"]
         for _ in range(200):
             held, keys, values = tomllib.loads(text), draws.sample(places, draws.randint(1, 6)), {}

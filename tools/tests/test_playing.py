@@ -38,7 +38,7 @@ class Playing(unittest.TestCase):
 
     def test_the_reference_is_blind_for_some_things(self):
         self.assertEqual(played_of().blind_for()[0], "no 1 in bit 0 of the pedal")
-        with open(os.path.join(TOP, "examples", "reference.toml"), encoding="utf-8") as file:
+        with open(os.path.join(TOP, "examples", "calibration", "reference.toml"), encoding="utf-8") as file:
             text = file.read()
         with tempfile.NamedTemporaryFile("w", suffix=".toml") as file:
             file.write(text.replace("answer = 55753", "answer = 55754"))
@@ -59,8 +59,8 @@ class Playing(unittest.TestCase):
 
     def test_what_a_page_is_made_from(self):
         names = own_files("own.toml")
-        self.assertNotIn("examples/reference.toml", names)
-        self.assertEqual(own_files(None), ["examples/reference.toml", *names])
+        self.assertNotIn("examples/calibration/reference.toml", names)
+        self.assertEqual(own_files(None), ["examples/calibration/reference.toml", *names])
         self.assertTrue({"docs/PROVED.md", "tools/lib/playing.py", "tools/lib/covering.py", "tools/report_files/page.css"} <= set(names))
         self.assertTrue(all(os.path.isfile(os.path.join(TOP, name)) for name in names))
         self.assertTrue(document("SAFETY.md").startswith("# For a safety case"))

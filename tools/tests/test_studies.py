@@ -1,4 +1,4 @@
-"""The folder of a study. The program's part is taken by a stand-in; examples/study.sh has the real one."""
+"""The folder of a study. The program's part is taken by a stand-in; cases/examples/study.sh has the real one."""
 
 import csv
 import os

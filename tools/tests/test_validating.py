@@ -23,7 +23,7 @@ class Validating(InFolder):
 
     def test_the_steps_of_a_whole_validation(self):
         self.assertEqual([" ".join(step.words) for step in steps_of(WHOLE, 7, 3)], [
-            ".ci/run", "cases/run", "cases/streams", "examples/run", "bench/edits", "bench/compare 7 667", "bench/compare 8 667",
+            ".ci/run", "cases/run", "cases/streams", "cases/examples/run", "bench/edits", "bench/compare 7 667", "bench/compare 8 667",
             "bench/compare 9 666", "bench/fuzz 7 20000 3", "bench/refuse --part 1/1", "bench/escape", "bench/escape 7 20000"])
         for jobs in range(1, 30):
             shares = [int(step.words[2]) for step in steps_of(SMALL, 1, jobs) if step.name.startswith("compare")]

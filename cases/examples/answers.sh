@@ -1,0 +1,1 @@
+./egasim answers examples/calibration/threshold.toml

@@ -1,0 +1,1 @@
+./egasim asm examples/level_1/full.asm

@@ -1,0 +1,1 @@
+./egasim run --cal examples/calibration/brake_counts.toml examples/calibration/brake.toml

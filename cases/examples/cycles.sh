@@ -1,0 +1,1 @@
+./egasim run examples/power_cycles/cycles.toml

@@ -1,0 +1,1 @@
+./egasim dis examples/level_1/full.hex

@@ -1,0 +1,1 @@
+./egasim check cases/examples/excess.csv >/dev/full

@@ -1,0 +1,1 @@
+./egasim run examples/first_run/levels.toml

@@ -1,0 +1,1 @@
+./egasim margins examples/first_run/levels.toml

@@ -1,0 +1,1 @@
+./egasim run --cal examples/calibration/strict.toml examples/first_run/missed.toml

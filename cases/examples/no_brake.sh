@@ -1,0 +1,1 @@
+./egasim run examples/calibration/brake.toml

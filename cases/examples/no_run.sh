@@ -1,0 +1,1 @@
+./egasim record examples/first_run/levels.toml unheard-of

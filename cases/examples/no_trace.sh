@@ -1,0 +1,1 @@
+./egasim run cases/examples/no_trace.toml

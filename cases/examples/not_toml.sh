@@ -1,0 +1,1 @@
+./egasim bound --cal cases/examples/tie.csv

@@ -1,0 +1,1 @@
+./egasim record examples/first_run/worked.toml raised

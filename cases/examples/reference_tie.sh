@@ -1,0 +1,1 @@
+./egasim check --cal examples/calibration/reference.toml cases/examples/tie.csv

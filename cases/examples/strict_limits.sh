@@ -1,0 +1,1 @@
+./egasim limits --cal examples/calibration/strict.toml

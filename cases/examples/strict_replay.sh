@@ -1,0 +1,1 @@
+./egasim replay --cal examples/calibration/strict.toml <examples/measurement/measured.csv

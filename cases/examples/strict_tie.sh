@@ -1,0 +1,1 @@
+./egasim check --cal examples/calibration/strict.toml cases/examples/tie.csv

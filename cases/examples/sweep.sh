@@ -1,0 +1,1 @@
+./egasim sweep examples/first_run/sweep.toml late 1

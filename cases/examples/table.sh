@@ -1,0 +1,1 @@
+./egasim table examples/first_run/levels.toml

@@ -1,0 +1,1 @@
+./egasim bound --cal examples/calibration/threshold.toml

@@ -1,0 +1,1 @@
+./egasim check cases/examples/tip_in.csv

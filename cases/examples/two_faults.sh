@@ -1,0 +1,1 @@
+./egasim run cases/examples/two_faults.toml

@@ -1,0 +1,1 @@
+./egasim run cases/examples/unknown_key.toml

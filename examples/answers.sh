@@ -1,1 +1,0 @@
-./egasim answers examples/threshold.toml

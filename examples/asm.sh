@@ -1,1 +1,0 @@
-./egasim asm examples/full.asm

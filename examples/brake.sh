@@ -1,1 +1,0 @@
-./egasim run --cal examples/brake_counts.toml examples/brake.toml

@@ -1,1 +1,0 @@
-./egasim check examples/broken.csv

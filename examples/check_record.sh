@@ -1,2 +1,0 @@
-work=$(mktemp -d) && trap 'rm -rf "$work"' EXIT
-./egasim record examples/levels.toml full | cut -d, -f2,3,4,7 >"$work/drive.csv" && ./egasim check "$work/drive.csv"

@@ -1,1 +1,0 @@
-./egasim dis examples/full.hex

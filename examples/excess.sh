@@ -1,1 +1,0 @@
-./egasim check examples/excess.csv

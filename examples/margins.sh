@@ -1,1 +1,0 @@
-./egasim margins examples/levels.toml

@@ -1,1 +1,0 @@
-./egasim run examples/no_trace.toml

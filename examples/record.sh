@@ -1,1 +1,0 @@
-./egasim record examples/levels.toml short

@@ -1,1 +1,0 @@
-./egasim check --cal examples/reference.toml examples/tie.csv

@@ -1,1 +1,0 @@
-examples/measure | cmp - examples/measured.csv && ./egasim replay <examples/measured.csv

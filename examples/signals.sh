@@ -1,1 +1,0 @@
-./egasim signals <examples/measured.csv | grep -v ',0,0,0,0,0,-$'

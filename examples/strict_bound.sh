@@ -1,1 +1,0 @@
-./egasim bound --cal examples/strict.toml

@@ -1,1 +1,0 @@
-./egasim run --cal examples/strict.toml examples/levels.toml

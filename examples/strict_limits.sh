@@ -1,1 +1,0 @@
-./egasim limits --cal examples/strict.toml

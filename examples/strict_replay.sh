@@ -1,1 +1,0 @@
-./egasim replay --cal examples/strict.toml <examples/measured.csv

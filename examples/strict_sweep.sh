@@ -1,1 +1,0 @@
-./egasim sweep --cal examples/strict.toml examples/sweep.toml late 1

@@ -1,1 +1,0 @@
-./egasim check --cal examples/strict.toml examples/tie.csv

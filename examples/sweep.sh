@@ -1,1 +1,0 @@
-./egasim sweep examples/sweep.toml late 1

@@ -1,1 +1,0 @@
-./egasim table examples/levels.toml

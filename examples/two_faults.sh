@@ -1,1 +1,0 @@
-./egasim run examples/two_faults.toml

@@ -1,1 +1,0 @@
-./egasim run examples/unknown_key.toml
