@@ -6,12 +6,12 @@ sed 's/^threshold = .*/threshold = 500/' examples/calibration/reference.toml >ow
 ./egasim run --cal own.toml examples/first_run/levels.toml
 
 # The right answers, put in.
-tools/questions own.toml
+./egasim questions own.toml
 
 # What the calibration comes to.
 ./egasim limits --cal own.toml
 
-# A run under two classes of fault, each at several onsets, and a row for each; tools/plot makes a picture of them.
-tools/study faults examples/first_run/sweep.toml late halt,path1-closed 0-80/10 >faults.toml
+# A run under two classes of fault, each at several onsets, and a row for each; ./egasim plot makes a picture of them.
+./egasim study faults examples/first_run/sweep.toml late halt,path1-closed 0-80/10 >faults.toml
 ./egasim table --cal own.toml faults.toml >table.csv
 cat table.csv

@@ -3,11 +3,11 @@
 # one then changes an answer. Then a file that is written in other ways, and a calibration by which nothing is an excess.
 work=$(mktemp -d) && trap 'rm -rf "$work"' EXIT && ln -s "$PWD/egasim" "$PWD/examples" "$PWD/tools" "$work" && cd "$work" || exit
 sed 's/^threshold = .*/threshold = 500/; /^.pairs/,/^.plant/s/^load = .*/load = 80/' examples/calibration/reference.toml >own.toml
-tools/questions --cover own.toml
+./egasim questions --cover own.toml
 cp own.toml before.toml
-tools/questions --fill own.toml
-tools/questions --cover own.toml
-tools/questions own.toml
+./egasim questions --fill own.toml
+./egasim questions --cover own.toml
+./egasim questions own.toml
 ./egasim limits --cal own.toml | grep peak
 without_numbers() { sed '/^.*question/,$s/[0-9][0-9]*/N/g' "$1"; }
 without_numbers before.toml >before && without_numbers own.toml | cmp - before && echo "all else is the same"
@@ -22,17 +22,17 @@ done
 printf '\357\273\277' >odd.toml
 sed 's/^answer = 8842/answer = 0x228A # answer = 1/; s/^load = .300, 300./load = [ 3_00, # load = [1, 2]\n  300, ]/' examples/calibration/reference.toml >>odd.toml
 cp odd.toml before.toml
-tools/questions odd.toml
-tools/questions --fill odd.toml
+./egasim questions odd.toml
+./egasim questions --fill odd.toml
 diff before.toml odd.toml | grep '#'
 
 sed 's/^threshold = .*/threshold = 2497/; s/^charge = .*/charge = [40, 300, 999]/' examples/calibration/reference.toml >none.toml
-tools/questions --fill none.toml
-tools/questions --cover none.toml | tail -n 2
+./egasim questions --fill none.toml
+./egasim questions --cover none.toml | tail -n 2
 printf 'pedal,speed,raise\n' >fast.csv
 yes 0,6000,0 | head -n 60 >>fast.csv
 printf '[[run]]\nname = "full"\ntrace = "fast.csv"\nimage = "examples/level_1/full.hex"\n' >full.toml
 ./egasim run --cal none.toml full.toml
 for words in '' --cover '--fill gone.toml' '--cover own.toml odd.toml' '--full own.toml'; do
-  tools/questions $words 2>&1 | head -n 1
+  ./egasim questions $words 2>&1 | head -n 1
 done

@@ -2,22 +2,22 @@
 # is emptied and made again, and one that isn't the study's.
 work=$(mktemp -d) && trap 'rm -rf "$work"' EXIT && ln -s "$PWD/egasim" "$PWD/examples" "$PWD/tools" "$work" && cd "$work" || exit
 made() { if command -v make >/dev/null; then make -s -C study -j2; else study/slurm; fi; }
-tools/study examples/first_run/study.toml study
+./egasim study examples/first_run/study.toml study
 made
-tools/study join study
+./egasim study join study
 sed -n '1p;2p;20p' study/study.csv
 cat study/matrix.csv
 mv study/study.csv study.csv
-tools/study join study >/dev/null & tools/study join study >/dev/null
+./egasim study join study >/dev/null & ./egasim study join study >/dev/null
 wait
 cmp study/study.csv study.csv && echo two at once write what one does
-tools/study examples/first_run/study.toml study
+./egasim study examples/first_run/study.toml study
 
 rm study/tables/00001.csv
-tools/study join study 2>&1
+./egasim study join study 2>&1
 : >study/tables/00002.csv
-tools/study join study 2>&1
+./egasim study join study 2>&1
 made
-tools/study join study >/dev/null && cmp study/study.csv study.csv && echo both are made again
+./egasim study join study >/dev/null && cmp study/study.csv study.csv && echo both are made again
 echo >>study/tables/00002.csv
-tools/study join study 2>&1
+./egasim study join study 2>&1

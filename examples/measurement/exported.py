@@ -1,5 +1,5 @@
 #!/usr/bin/env python3
-"""Prints a measurement of 60 s as a measuring tool exports it, for tools/measured.
+"""Prints a measurement of 60 s as a measuring tool exports it, for egasim measured.
 
     python3 examples/measurement/exported.py >exported.csv
 

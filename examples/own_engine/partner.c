@@ -1,6 +1,6 @@
 /* A driver and an engine of your own around the unit, in C: the same as partner.py.
 
-    cc -O2 -o partner examples/own_engine/partner.c -lm && tools/partner ./partner CAMPAIGN RUN >record.csv */
+    cc -O2 -o partner examples/own_engine/partner.c -lm && egasim partner ./partner CAMPAIGN RUN >record.csv */
 
 #include <math.h>
 #include <stdio.h>

@@ -1,9 +1,9 @@
 #!/usr/bin/env python3
 """A driver and an engine of your own around the unit: copy this file, and put yours in their places.
 
-    tools/partner examples/own_engine/partner.py CAMPAIGN RUN >record.csv      (docs/START.md, "An engine of your own")
+    egasim partner examples/own_engine/partner.py CAMPAIGN RUN >record.csv      (docs/START.md, "An engine of your own")
 
-tools/partner starts it. It reads lines of the record on standard input, each with what the unit commands for the next
+egasim partner starts it. It reads lines of the record on standard input, each with what the unit commands for the next
 tick, and answers each with a line on standard output (docs/FORMATS.md, "The lines of `couple`")."""
 
 import csv

@@ -1,8 +1,8 @@
 #!/usr/bin/env python3
 """A turbocharged engine around the unit: a partner of `egasim couple` (docs/START.md, "An engine of your own").
 
-    tools/partner examples/own_engine/turbo.py examples/own_engine/turbo.toml sound >turbo.csv
-    tools/plot turbo.png turbo.csv
+    egasim partner examples/own_engine/turbo.py examples/own_engine/turbo.toml sound >turbo.csv
+    egasim plot turbo.png turbo.csv
 
 It has two states: the boost of the turbocharger, which follows the charge slowly, and the charge, which follows the
 throttle, and the boost above it. So when the pedal is let go from far down the charge is still high for some ticks, and

@@ -1,4 +1,4 @@
-"""What tools/partner puts between the unit and a partner where there are options: noise, and a recording.
+"""What egasim partner puts between the unit and a partner where there are options: noise, and a recording.
 
     between.py TOOL try|play NOISE RECORDING PARTNER WORDS ..
 

@@ -1,4 +1,4 @@
-"""What a file of expectations says, checked: the form that `tools/judge --help` tells."""
+"""What a file of expectations says, checked: the form that `egasim judge --help` tells."""
 
 from dataclasses import dataclass
 

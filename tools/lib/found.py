@@ -1,4 +1,4 @@
-"""What tools/find tells: the table of thresholds and ramps, the one that is chosen, and a picture of all."""
+"""What egasim find tells: the table of thresholds and ramps, the one that is chosen, and a picture of all."""
 
 from fractions import Fraction
 

@@ -1,4 +1,4 @@
-"""What is kept of calls of the program, of one by tools/keep or of all those of a tool by its --keep, and how they are made
+"""What is kept of calls of the program, of one by egasim keep or of all those of a tool by its --keep, and how they are made
 again."""
 
 import contextlib

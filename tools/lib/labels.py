@@ -1,4 +1,4 @@
-"""Which label of a DCM has which key of a calibration: the map of tools/calibration, and what stands in both by it."""
+"""Which label of a DCM has which key of a calibration: the map of egasim calibration, and what stands in both by it."""
 
 import re
 import tomllib

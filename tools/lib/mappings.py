@@ -1,4 +1,4 @@
-"""What a mapping of tools/measured says: from which channels of a measurement each column comes, and how."""
+"""What a mapping of egasim measured says: from which channels of a measurement each column comes, and how."""
 
 from fractions import Fraction
 from types import SimpleNamespace

@@ -1,4 +1,4 @@
-"""What a plan of tools/study holds, and the runs that it comes to."""
+"""What a plan of egasim study holds, and the runs that it comes to."""
 
 import itertools
 import random

@@ -297,7 +297,7 @@ def cut_figures(place, name, record, threshold, marks, around, units=Units(), ki
     yield "</div>"
     if len(shown_near) > MOST_CUTS:
         yield paragraph(Html(f"{len(shown_near) - MOST_CUTS} more such stretches of ticks aren't drawn; the next begins at "
-                             f"{shown_near[MOST_CUTS][0]}. {code('tools/plot --from T --to T')} draws any."))
+                             f"{shown_near[MOST_CUTS][0]}. {code('egasim plot --from T --to T')} draws any."))
 
 
 def fault_said(row):
@@ -373,4 +373,4 @@ def provenance(played):
     yield from table("Commands, each of which ended with 0", ("command", "SHA-256 of what it printed"),
                      [(code(command), code(total)) for command, total in played.commands], "sums")
     if played.kept:
-        yield paragraph(f"These calls are kept in {played.kept}. tools/keep --again makes them again, and compares.")
+        yield paragraph(f"These calls are kept in {played.kept}. egasim keep --again makes them again, and compares.")

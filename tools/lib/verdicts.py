@@ -214,7 +214,7 @@ def questions_point(played):
     """Whether the questions are blind for something (lib/covering.py)."""
     if played.blind:
         return FAILS, f"The questions are blind: {'; '.join(played.blind)}."
-    return FITS, ("The questions exercise each bit, pair, tie and check word; tools/questions --cover tells how late path 2 "
+    return FITS, ("The questions exercise each bit, pair, tie and check word; egasim questions --cover tells how late path 2 "
                   "opens if just one of them is wrong. Single entries of the permit table aren't looked at.")
 
 
