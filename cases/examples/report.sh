@@ -69,7 +69,7 @@ printf '#!/bin/sh\n"%s/egasim" "$@" | sed "/^path1-closed-0/s/,[0-9]*,1,19,/,20,
 cat >by_slower.py <<'END'
 import os, runpy, lib.program
 lib.program.program = lambda: os.path.abspath("slower")
-runpy.run_path("./egasim report", run_name="__main__")
+runpy.run_path("tools/report", run_name="__main__")
 END
 PYTHONPATH=tools python3 -B by_slower.py --cal examples/calibration/strict.toml one.toml | sed -n '/Against\|without evidence\|above its bound/s/<[^>]*>/ /gp'
 
