@@ -89,7 +89,7 @@ def page(text, version, program, is_another, tools):
 def tool_page(name, text, version):
     """The page of a tool, from what its --help prints: its forms stand behind the first lines."""
     (_, first), *others = blocks_of(text)
-    told, *rest = re.split(r"(?<=\.) ", " ".join(first), maxsplit=1)
+    told, *rest = re.split(r"(?<=\.) (?=[A-Z])", " ".join(first), maxsplit=1)
     forms = list(takewhile(lambda block: block[0] == "code", others))
     yield from [*head(f"egasim-{name}", version, told.removesuffix(".")), ".SH SYNOPSIS"]
     yield from (line for _, lines in forms for line in code(lines))
