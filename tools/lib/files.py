@@ -108,8 +108,7 @@ def written(name, mode=None):
             raise
         fail(f"cannot write {name}: {error.strerror}")
     finally:
-        if os.path.lexists(part):
-            os.unlink(part)
+        undisturbed(remove, part)
 
 
 def replaceable(name):
@@ -153,8 +152,22 @@ def room_in(folder):
     try:
         yield room
     finally:
-        shutil.rmtree(room, ignore_errors=True)
+        undisturbed(shutil.rmtree, room, ignore_errors=True)
         os.close(handle)
+
+
+def undisturbed(removes, *what, **how):
+    """Removes something, and does so once more where a signal that ends the tool comes meanwhile; no second one does."""
+    try:
+        removes(*what, **how)
+    except SystemExit:
+        removes(*what, **how)
+        raise
+
+
+def remove(path):
+    with contextlib.suppress(FileNotFoundError):
+        os.unlink(path)
 
 
 def make_folder(**where):
