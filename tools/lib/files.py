@@ -2,6 +2,7 @@
 another name until they are whole, so that whoever reads meanwhile has the old file or the new one."""
 
 import contextlib
+import errno
 import fcntl
 import hashlib
 import os
@@ -109,6 +110,19 @@ def written(name, mode=None):
         fail(f"cannot write {name}: {error.strerror}")
     finally:
         undisturbed(remove, part)
+
+
+def renamed(path, target):
+    """Whether a folder has got its name, which nothing had before; two calls may try at once."""
+    if os.path.lexists(target):
+        return False
+    try:
+        os.rename(path, target)
+    except OSError as error:
+        if error.errno not in (errno.EEXIST, errno.ENOTEMPTY, errno.ENOTDIR):
+            raise
+        return False
+    return True
 
 
 def replaceable(name):

@@ -22,11 +22,12 @@ def join(path, tick=None, folder=None):
     """Writes study.csv and matrix.csv of the tables that count, prints their summary, and tells which campaigns have none. A study that has
     all is kept in a folder, if one is named."""
     refuse_changes(path)
+    way = program_of(path)
     units = units_of(tick, [os.path.join(path, "inputs", "calibration.toml")])
     numbers = sorted(name[:-5] for name in os.listdir(f"{path}/campaigns") if name.endswith(".toml"))
     faults = {number: fault_of_table(path, number) for number in numbers}
     good = [number for number in numbers if not faults[number]]
-    with calls_kept(folder, program_of(path), path) as kept:
+    with calls_kept(folder, way, path) as kept:
         bounds = bounds_of(path)
         if good:
             print_summary(write_joined(path, good), bounds, units)
