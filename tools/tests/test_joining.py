@@ -4,6 +4,7 @@ import contextlib
 import io
 import os
 import subprocess
+import time
 from unittest import mock
 
 from lib import joining
@@ -77,6 +78,13 @@ r3,a.csv,i.hex,halt,90,0,,,0,,,34
         self.assertEqual(said_by(join, "s", None, "m")[2], "s is of older tools; to keep it, write the study anew")
         os.unlink("s/tables/00002.csv")
         self.assertEqual((said_by(join, "s", None, "m")[2], os.path.exists("m")), ("s/study.csv has 1 of 2 campaigns", False))
+
+    def test_plan_without_ends_of_lines_is_refused_at_once(self):
+        for text in ("run,a\r" * 100000, "run\nr1," + '"a"' * 200000, "run\nr1," + '"a' * 200001):
+            self.put("s/campaigns/00001.csv", text)
+            begin = time.monotonic()
+            self.assertEqual(note_of(rows_of, "s", "00001"), "campaign 00001: the table has other runs than the plan")
+            self.assertLess(time.monotonic() - begin, 5)
 
     def test_study_with_another_program_is_refused(self):
         self.put("own", b"\x7fELF own", 0o755)
