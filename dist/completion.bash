@@ -1,9 +1,17 @@
 # Completion of egasim for bash.
 _egasim() {
   local word=${COMP_WORDS[COMP_CWORD]} command=${COMP_WORDS[1]} place=$((COMP_CWORD - 1)) campaign names ending=toml
+  local commands='run table margins record couple sweep soak check replay signals bound limits coverage answers asm dis'
+  local tools='calibration draw find fmu image judge keep measured partner plot questions report study'
   COMPREPLY=()
   if [ "$place" -eq 0 ]; then
-    mapfile -t COMPREPLY < <(compgen -W 'run table margins record couple sweep soak check replay signals bound limits coverage answers asm dis --help --version' -- "$word")
+    mapfile -t COMPREPLY < <(compgen -W "$commands $tools help prove --help --version" -- "$word")
+    return
+  elif [ "$command:$place" = help:1 ]; then
+    mapfile -t COMPREPLY < <(compgen -W "$commands $tools" -- "$word")
+    return
+  elif [[ " $tools " == *" $command "* ]]; then
+    compopt -o default 2>/dev/null
     return
   fi
   # The place is counted without --cal and its file.

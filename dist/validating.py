@@ -18,7 +18,7 @@ from lib.tool import as_noted, fail
 
 WHOLE = {"campaigns": 2000, "inputs": 20000, "images": 20000, "parts": 1}  # what a whole validation plays
 SMALL = {"campaigns": 20, "inputs": 500, "images": 200, "parts": 50}
-GATE = ".ci/run"
+GATE, BUILT = ".ci/run", "out/egasim"  # the gate, and the program that it leaves
 PASSED, FAILED, QUOTED, LEFT_OUT = "passed", "failed", "quoted", "left out"
 COUNTS = re.compile(r".*\b\d+ passed, \d+ failed.*")
 MOST_OF_LINE = 300  # letters of what a step tells that stand in the report
@@ -218,8 +218,9 @@ def validate(folder, asked):
         outcomes = [Outcome(steps[0], LEFT_OUT, ["not run here"])]
     os.mkdir(folder)
     if asked.gate:
-        # The gate builds the program, and takes none that the caller names.
         outcomes = Plays(folder, "").outcomes(steps[:1], 1)
+        built = os.path.join(TOP, BUILT)
+        os.environ |= {"EGASIM_PROGRAM": built} if os.path.isfile(built) else {}
     version, plays = version_lines(), Plays(folder, program())
     without = [step for step in steps[1:] if step.name.split("-")[0] in asked.without]
     outcomes += [Outcome(step, LEFT_OUT, ["the call left it out"]) for step in without]

@@ -1,6 +1,6 @@
 # A measurement of 60 s as a measuring tool exports it: as a recording, with its gap held or cut out, and as a drive. Other
 # forms of the same measurement give the same, --check writes nothing, and what is refused is told in a line.
-work=$(mktemp -d) && trap 'rm -rf "$work"' EXIT && ln -s "$PWD/egasim" "$PWD/examples" "$PWD/tools" "$work" && cd "$work" || exit
+work=$(mktemp -d) && trap 'rm -rf "$work"' EXIT && ln -s "$PWD/egasim" "$PWD/examples" "$PWD/cases" "$work" && cd "$work" || exit
 python3 examples/measurement/exported.py >exported.csv
 ./egasim measured examples/measurement/exported_readings.toml exported.csv readings.csv
 ./egasim replay <readings.csv

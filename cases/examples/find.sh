@@ -1,6 +1,6 @@
 # The least limits that ./egasim find tells, beside all limits of a small grid, each of them tried by `run` and `replay` alone:
 # of each threshold the least limit by which neither of two drives nor a recording is cut. Then what is refused.
-work=$(mktemp -d) && trap 'rm -rf "$work"' EXIT && ln -s "$PWD/egasim" "$PWD/examples" "$PWD/tools" "$work" && cd "$work" || exit
+work=$(mktemp -d) && trap 'rm -rf "$work"' EXIT && ln -s "$PWD/egasim" "$PWD/examples" "$PWD/cases" "$work" && cd "$work" || exit
 find() { ./egasim find examples/first_run/diesel.toml --cal examples/calibration/reference.toml --tick 10ms --tolerant 300ms --falls 20ms "$@"; }
 find --thresholds 100-500/200 --recording examples/measurement/measured.csv --picture best.svg --write best.toml | tee told
 ./egasim limits --cal best.toml | sed -n 1p

@@ -1,7 +1,7 @@
 # Images by gain, offset and rate: half of the pedal is what follow.asm does, tick by tick; a source; and what is refused.
-work=$(mktemp -d) && trap 'rm -rf "$work"' EXIT && ln -s "$PWD/egasim" "$PWD/examples" "$PWD/tools" "$work" && cd "$work" || exit
+work=$(mktemp -d) && trap 'rm -rf "$work"' EXIT && ln -s "$PWD/egasim" "$PWD/examples" "$PWD/cases" "$work" && cd "$work" || exit
 printf '[[run]]\nname = "a"\ntrace = "examples/power_cycles/cycles.csv"\nimage = "%s.hex"\n' examples/level_1/follow >follow.toml
-sed 's/examples.follow/half/' follow.toml >half.toml
+sed 's/examples.level_1.follow/half/' follow.toml >half.toml
 ./egasim image --gain 0.5 >half.hex
 ./egasim record follow.toml a >follow.csv
 ./egasim record half.toml a | cmp - follow.csv && echo the same record

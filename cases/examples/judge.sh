@@ -1,5 +1,5 @@
 # Verdicts as a build server takes them: TAP, a run that no line names, and JUnit's XML. The calls are told on demand.
-work=$(mktemp -d) && trap 'rm -rf "$work"' EXIT && ln -s "$PWD/egasim" "$PWD/examples" "$PWD/tools" "$work" && cd "$work" || exit
+work=$(mktemp -d) && trap 'rm -rf "$work"' EXIT && ln -s "$PWD/egasim" "$PWD/examples" "$PWD/cases" "$work" && cd "$work" || exit
 ./egasim judge examples/first_run/expect.toml --junit junit.xml --verbose 2>&1; echo "status $?"
 cat junit.xml
 ./egasim judge examples/first_run/expect.toml --strict | grep '^not ok'
@@ -29,7 +29,7 @@ refused() { sed "$1" examples/first_run/expect.toml >wrong.toml; ./egasim judge 
 refused 's/^room/rome/'
 refused 's/^tick.*//'
 refused 's/levels.toml"/gone.toml"/'
-refused 's/measured.csv"/late.csv"/'
+refused 's#measurement/measured.csv"#first_run/late.csv"#'
 for words in 'examples/gone.toml' '--junit' 'examples/first_run/expect.toml examples/first_run/expect.toml' 'examples/first_run/expect.toml --junit gone/j.xml'; do
   ./egasim judge $words 2>&1; echo "status $?"
 done

@@ -1,5 +1,5 @@
 # Evidence of a verdict, a page and a study: all calls that they were made from, made again, and told where something changed.
-work=$(mktemp -d) && trap 'rm -rf "$work"' EXIT && ln -s "$PWD/egasim" "$PWD/examples" "$PWD/tools" "$work" && cd "$work" || exit
+work=$(mktemp -d) && trap 'rm -rf "$work"' EXIT && ln -s "$PWD/egasim" "$PWD/examples" "$PWD/cases" "$work" && cd "$work" || exit
 sums() { sed 's/[0-9a-f]\{64\}/SUM/g'; }
 cp examples/first_run/diesel.csv my.csv
 sed 's#examples/first_run/diesel.csv#my.csv#' examples/first_run/diesel.toml >my.toml

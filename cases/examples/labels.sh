@@ -1,5 +1,5 @@
 # A calibration as a DCM, and back; a DCM with other values, what it is rounded to, and in what the calibrations differ.
-work=$(mktemp -d) && trap 'rm -rf "$work"' EXIT && ln -s "$PWD/egasim" "$PWD/examples" "$PWD/tools" "$work" && cd "$work" || exit
+work=$(mktemp -d) && trap 'rm -rf "$work"' EXIT && ln -s "$PWD/egasim" "$PWD/examples" "$PWD/cases" "$work" && cd "$work" || exit
 ./egasim calibration write examples/calibration/labels.toml >reference.dcm
 cat reference.dcm
 ./egasim calibration read examples/calibration/labels.toml reference.dcm examples/calibration/reference.toml | cmp - examples/calibration/reference.toml && echo the same again

@@ -1,5 +1,5 @@
 # From a changed threshold to a table of runs, in a folder that is taken away at the end.
-work=$(mktemp -d) && trap 'rm -rf "$work"' EXIT && ln -s "$PWD/egasim" "$PWD/examples" "$PWD/tools" "$work" && cd "$work" || exit
+work=$(mktemp -d) && trap 'rm -rf "$work"' EXIT && ln -s "$PWD/egasim" "$PWD/examples" "$PWD/cases" "$work" && cd "$work" || exit
 
 # Another threshold makes other answers to the questions right, so that this file is refused: own.toml: answer 0.
 sed 's/^threshold = .*/threshold = 500/' examples/calibration/reference.toml >own.toml

@@ -1,7 +1,7 @@
 # What the questions of a calibration exercise, and questions that exercise everything. Every other byte of the file stays:
 # without the questions' numbers both files are the same. By the program itself a threshold or a tolerance that is wrong by
 # one then changes an answer. Then a file that is written in other ways, and a calibration by which nothing is an excess.
-work=$(mktemp -d) && trap 'rm -rf "$work"' EXIT && ln -s "$PWD/egasim" "$PWD/examples" "$PWD/tools" "$work" && cd "$work" || exit
+work=$(mktemp -d) && trap 'rm -rf "$work"' EXIT && ln -s "$PWD/egasim" "$PWD/examples" "$PWD/cases" "$work" && cd "$work" || exit
 sed 's/^threshold = .*/threshold = 500/; /^.pairs/,/^.plant/s/^load = .*/load = 80/' examples/calibration/reference.toml >own.toml
 ./egasim questions --cover own.toml
 cp own.toml before.toml

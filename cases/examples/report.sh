@@ -1,6 +1,6 @@
 # A report: its verdict, numbers and pictures as they stand in the page. What changes with the documents, the program or
 # the day is left out, and counted. Then each point of verdicts, names of files that hold marks of HTML, and what is refused.
-work=$(mktemp -d) && trap 'rm -rf "$work"' EXIT && ln -s "$PWD/egasim" "$PWD/examples" "$PWD/tools" "$work" && cd "$work" || exit
+work=$(mktemp -d) && trap 'rm -rf "$work"' EXIT && ln -s "$PWD/egasim" "$PWD/examples" "$PWD/cases" "$PWD/tools" "$PWD/dist" "$work" && cd "$work" || exit
 ./egasim report examples/first_run/sweep.toml --cal examples/calibration/strict.toml --tolerant 20 --falls 0 --title 'Late & <cut>' --project P7 --author 'A. "B"' >page.html
 sed '/<style>/,/<\/style>/d; /class="warning own"/d; /^<li>Date: <time>[0-9-]* [0-9:]* UTC<\/time>/d; /^<li>Version: egasim /d
   /aria-label="The columns"/,/<\/table>/d; /id="limits"/,/<\/section>/s/<\/td><td>.*/<\/td>/; /<section id="assumptions">/,$d' page.html
@@ -12,7 +12,7 @@ folded() { sed -n 's/.*Not shown here: //p' page.html | grep -oE '[0-9]+( to [0-
 { folded && grep -o '<th scope="row">[0-9]*\. ' page.html | grep -o '[0-9]*'; } | sort -n >told
 grep -o '^| [0-9]*\. ' tools/../docs/PROVED.md | grep -o '[0-9]*' | sort -n | cmp - told && echo "each claim is there, $(folded | wc -l) of them in a line"
 lib() { printf 'tools/lib/%s.py ' $(cd tools/lib && sed -n 's/^from lib\.\([a-z]*\) import.*/\1/p' ../report telling.py playing.py verdicts.py pages.py | sort -u); }
-for file in tools/../docs/SAFETY.md tools/../docs/PROVED.md tools/../docs/FORMATS.md ./egasim report $(lib) \
+for file in tools/../docs/SAFETY.md tools/../docs/PROVED.md tools/../docs/FORMATS.md tools/report $(lib) \
   tools/report_files/page.css examples/calibration/strict.toml examples/first_run/sweep.toml examples/first_run/late.csv examples/level_1/late.hex; do
   grep -c "<code>$(sha256sum <"$file" | sed 's/ .*//')</code>" page.html
 done
@@ -69,7 +69,7 @@ printf '#!/bin/sh\n"%s/egasim" "$@" | sed "/^path1-closed-0/s/,[0-9]*,1,19,/,20,
 cat >by_slower.py <<'END'
 import os, runpy, lib.program
 lib.program.program = lambda: os.path.abspath("slower")
-runpy.run_path("./egasim report", run_name="__main__")
+runpy.run_path("tools/report", run_name="__main__")
 END
 PYTHONPATH=tools python3 -B by_slower.py --cal examples/calibration/strict.toml one.toml | sed -n '/Against\|without evidence\|above its bound/s/<[^>]*>/ /gp'
 

@@ -1,1 +1,1 @@
-for file in examples/*.asm examples/*.hex examples/first_run/worked/*.asm examples/first_run/worked/*.hex; do ./egasim asm "${file%.*}.asm" | cmp - "${file%.*}.hex" && echo "$file"; done
+for file in examples/level_1/*.asm examples/level_1/*.hex examples/first_run/worked/*.asm examples/first_run/worked/*.hex; do ./egasim asm "${file%.*}.asm" | cmp - "${file%.*}.hex" && echo "$file"; done

@@ -1,6 +1,6 @@
 # A plan, its folder, its tables, and all of them in one, by two calls at once too; then a table that isn't made, one that
 # is emptied and made again, and one that isn't the study's.
-work=$(mktemp -d) && trap 'rm -rf "$work"' EXIT && ln -s "$PWD/egasim" "$PWD/examples" "$PWD/tools" "$work" && cd "$work" || exit
+work=$(mktemp -d) && trap 'rm -rf "$work"' EXIT && ln -s "$PWD/egasim" "$PWD/examples" "$PWD/cases" "$work" && cd "$work" || exit
 made() { if command -v make >/dev/null; then make -s -C study -j2; else study/slurm; fi; }
 ./egasim study examples/first_run/study.toml study
 made

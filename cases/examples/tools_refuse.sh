@@ -1,5 +1,5 @@
 # What tools say of a file that they can't take: one line, and a status that isn't 0. No file is changed.
-work=$(mktemp -d) && trap 'rm -rf "$work"' EXIT && ln -s "$PWD/egasim" "$PWD/examples" "$PWD/tools" "$work" && cd "$work" || exit
+work=$(mktemp -d) && trap 'rm -rf "$work"' EXIT && ln -s "$PWD/egasim" "$PWD/examples" "$PWD/cases" "$PWD/tools" "$PWD/dist" "$work" && cd "$work" || exit
 : >empty.csv
 ./egasim record examples/first_run/levels.toml short | sed '3s/,.*//' >cut.csv
 for file in /dev/zero empty.csv cut.csv gone.csv examples/level_1/late.hex; do
@@ -58,8 +58,8 @@ planned 'class = "offset"\nadd = '"$(printf '%0400d' 0 | tr 0 1)"
 planned "class.$(yes k | head -n 900 | paste -s -d .) = 1"
 planned "class.$(yes k | head -n 100000 | paste -s -d .) = 1"
 printf '#!/bin/sh\nexec ./egasim "$@"\n' >script && chmod +x script
-for tool in 'study examples/first_run/study.toml study' 'install place' 'report examples/first_run/levels.toml' 'couple cat examples/first_run/levels.toml full'; do
-  EGASIM_PROGRAM=./script tools/$tool 2>&1
+for tool in 'tools/study examples/first_run/study.toml study' 'dist/install place' 'tools/report examples/first_run/levels.toml' 'tools/partner cat examples/first_run/levels.toml full'; do
+  EGASIM_PROGRAM=./script $tool 2>&1
 done
 rm script
 dist/install '' 2>&1

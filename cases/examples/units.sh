@@ -1,6 +1,6 @@
 # How long a tick is, by --tick, or by units.toml beside the calibration: times beside ticks, and Nm beside tenths of Nm, in
 # a page, a picture and a study. Another calibration's folder has no units, and what is no length of a tick is refused.
-work=$(mktemp -d) && trap 'rm -rf "$work"' EXIT && ln -s "$PWD/egasim" "$PWD/examples" "$PWD/tools" "$work" && cd "$work" || exit
+work=$(mktemp -d) && trap 'rm -rf "$work"' EXIT && ln -s "$PWD/egasim" "$PWD/examples" "$PWD/cases" "$work" && cd "$work" || exit
 mkdir own && cp examples/calibration/strict.toml own && echo 'tick = "10ms"' >own/units.toml
 said() { sed '/aria-label="The columns"/,/<\/table>/d; /<section id="sweeps">/,$d' | sed -n "$1"; }
 ./egasim report examples/first_run/sweep.toml --cal own/strict.toml --tolerant 20 --falls 0 >page.html

@@ -1,6 +1,5 @@
 """The program: which one it is, what is told of it, and what its commands print."""
 
-import functools
 import os
 import re
 import shlex
@@ -17,18 +16,13 @@ OWN = ", by a program of your own"  # what a version has behind it if the progra
 
 
 def program():
-    """The program: the one that EGASIM_PROGRAM names, or that of the checkout or the installation that the tools are of,
-    also where they are called by links."""
+    """The program: the one that EGASIM_PROGRAM names, or release/egasim of the checkout or installation that the tools are
+    of, also where they are called by links."""
     named = os.environ.get("EGASIM_PROGRAM")
-    if named:
-        if not is_program(named):
-            fail(f"{named}, which EGASIM_PROGRAM names, is no program (a script isn't one)")
-        return os.path.realpath(named)
-    above = os.path.join(TOP, "egasim")
-    if is_executable(above):
-        return os.path.realpath(above) if is_program(above) else built_by(above)
-    installed = os.path.join(TOOLS, "..", "..", "..", "lib", "egasim", "egasim")
-    return os.path.realpath(installed) if is_program(installed) else fail("there is no program egasim above the tools")
+    if named and not is_program(named):
+        fail(f"{named}, which EGASIM_PROGRAM names, is no program (a script isn't one)")
+    path = named or os.path.join(TOP, "release", "egasim")
+    return os.path.realpath(path) if is_program(path) else fail(f"{path} is no program that may be run")
 
 
 def is_executable(path):
@@ -43,48 +37,24 @@ def is_program(path):
         return file.read(4) == b"\x7fELF"
 
 
-def built_by(launcher):
-    """The program that the launcher keeps. It is called first, so that it builds the program if need be."""
-    return kept_by(launcher, os.environ.get("EGASIM_OUT"))
-
-
-@functools.cache
-def kept_by(launcher, folder):
-    """The program that the launcher keeps there: asked once, so that a tool has one program in a call."""
-    if subprocess.call([launcher, "bound"], stdout=subprocess.DEVNULL):
-        fail(f"{launcher} has built no program")
-    top = os.path.dirname(os.path.realpath(launcher))
-    built = os.path.join(folder or os.path.join(top, "out"), "egasim")
-    return os.path.realpath(built) if is_program(built) else fail(f"{launcher} keeps no program")
-
-
 def asked_version():
-    """A call of the launcher's --version, which reads all sources, while the tool goes on; None where there is none."""
-    launcher = os.path.join(TOP, "egasim")
-    if not os.path.isfile(launcher):
-        return None
-    # The commit is that of the checkout, whatever Git's variables of the caller name.
-    clean = {name: value for name, value in os.environ.items() if not name.startswith("GIT_")}
-    return subprocess.Popen([launcher, "--version"], stdin=subprocess.DEVNULL, stdout=subprocess.PIPE,
-                            stderr=subprocess.DEVNULL, env=clean)
+    """A call of `egasim --version`, which reads all sources, while the tool goes on."""
+    return subprocess.Popen([os.path.join(TOOLS, "version")], stdin=subprocess.DEVNULL, stdout=subprocess.PIPE,
+                            stderr=subprocess.DEVNULL)
 
 
 def version_lines(way=None, asked=None):
     """What --version tells of the program that is called, or of the one at `way`; of one that the caller brings that alone,
     and its checksum. `asked` is the call that asked_version began."""
-    total, version = f"program {sum_of(read(way or program()))}", os.path.join(TOP, "VERSION")
-    asked = asked or asked_version()
-    if asked:
-        lines = asked.communicate()[0].decode().splitlines()
-    else:
-        lines = read(version).decode().splitlines() if os.path.isfile(version) else []
+    total = f"program {sum_of(read(way or program()))}"
+    lines = (asked or asked_version()).communicate()[0].decode().splitlines()
     if tells_of(lines, total):
         return lines
     return [*(f"{line.removesuffix(OWN)}{OWN}" for line in lines[:1]), total]
 
 
 def tells_of(lines, total):
-    """Whether one of these lines is of this program; the launcher's has behind it where the program is from, and its kit."""
+    """Whether one of these lines is of this program; it has the kit's name behind it."""
     return any(line == total or line.startswith(f"{total}, ") for line in lines)
 
 

@@ -20,7 +20,7 @@ def printed(folder, *words, text=""):
 
 def egasim(folder, command, calibration, *words, text=""):
     """What a command of the program prints, with this on standard input."""
-    program = os.environ.get("EGASIM_PROGRAM") or os.path.join(TOP, "egasim")
+    program = os.environ.get("EGASIM_PROGRAM") or os.path.join(TOP, "release", "egasim")
     return printed(folder, os.path.realpath(program), command, *(["--cal", calibration] if calibration else []), *words,
                    text=text)
 

@@ -7,7 +7,7 @@ from unittest import mock
 
 from lib import program as module
 from lib.files import sum_of
-from lib.program import (OWN, built_by, is_executable, is_own, is_program, own_warning, printed_by, program, reaction_bound,
+from lib.program import (OWN, is_executable, is_own, is_program, own_warning, printed_by, program, reaction_bound,
                          version_lines)
 from in_folder import InFolder
 from notes import note_of
@@ -17,31 +17,25 @@ TOTAL = f"program {sum_of(ELF)}"
 
 
 class Program(InFolder):
-    """A checkout in top/, a folder my/ with links to its tools and another program, and an installation in usr/."""
+    """A checkout in top/, and a folder my/ with links to its tools and another program."""
 
     def setUp(self):
         super().setUp()
         self.here = os.getcwd()
-        for name in ("my/egasim", "top/out/egasim", "usr/lib/egasim/egasim"):
+        for name in ("my/egasim", "top/release/egasim"):
             self.put(name, ELF, 0o755)
         self.put("script", b"#!/bin/sh\n", 0o755)
         os.makedirs("top/tools")
-        os.makedirs("usr/share/egasim/tools")
         os.symlink(f"{self.here}/top/tools", "my/tools")
         self.environment = self.enterContext(mock.patch.dict(os.environ))
-        for name in ("EGASIM_PROGRAM", "EGASIM_OUT"):
-            self.environment.pop(name, None)
+        self.environment.pop("EGASIM_PROGRAM", None)
         self.enterContext(mock.patch.object(sys, "argv", ["my/tools/report"]))
-        self.tops("top")
+        self.enterContext(mock.patch.multiple(module, TOP=f"{self.here}/top", TOOLS=f"{self.here}/top/tools"))
 
-    def tops(self, top):
-        self.enterContext(mock.patch.multiple(module, TOP=f"{self.here}/{top}", TOOLS=f"{self.here}/{top}/tools"))
-
-    def launcher(self, lines):
-        self.put("top/egasim", "#!/bin/sh\n" + lines, 0o755)
+    def version(self, lines):
+        self.put("top/tools/version", "#!/bin/sh\n" + lines, 0o755)
 
     def test_program_that_is_named_comes_first(self):
-        self.launcher("exit 1\n")
         os.environ["EGASIM_PROGRAM"] = "my/egasim"
         self.assertEqual(program(), f"{self.here}/my/egasim")
 
@@ -53,53 +47,25 @@ class Program(InFolder):
             self.assertEqual(note_of(program), f"{name}, which EGASIM_PROGRAM names, is no program (a script isn't one)")
 
     def test_tools_by_a_link_take_the_program_of_their_checkout(self):
-        shutil.copy("top/out/egasim", "top/egasim")
-        self.assertEqual(program(), f"{self.here}/top/egasim")
-
-    def test_launcher_is_asked_once_for_the_program_that_it_keeps(self):
-        self.launcher('echo "$1" >>called\n')
-        self.assertEqual([program(), program()], [f"{self.here}/top/out/egasim"] * 2)
-        with open("called", encoding="utf-8") as file:
-            self.assertEqual(file.read(), "bound\n")
-        os.environ["EGASIM_OUT"] = f"{self.here}/my"
-        self.assertEqual(built_by(f"{self.here}/top/egasim"), f"{self.here}/my/egasim")
-        os.environ["EGASIM_OUT"] = self.here
-        self.assertEqual(note_of(built_by, "top/egasim"), "top/egasim keeps no program")
-        self.launcher("exit 3\n")
-        self.assertEqual(note_of(built_by, "top/egasim"), "top/egasim has built no program")
-
-    def test_installed_tools_take_the_installed_program(self):
-        self.tops("usr/share/egasim")
-        self.assertEqual(program(), f"{self.here}/usr/lib/egasim/egasim")
-        os.unlink("usr/lib/egasim/egasim")
-        self.assertEqual(note_of(program), "there is no program egasim above the tools")
+        self.assertEqual(program(), f"{self.here}/top/release/egasim")
+        os.unlink("top/release/egasim")
+        self.assertEqual(note_of(program), f"{self.here}/top/release/egasim is no program that may be run")
 
     def test_program_runs_by_itself(self):
         self.assertEqual([is_program(name) for name in ("my/egasim", "script", ".", "gone", sys.executable)],
                          [True, False, False, False, True])
         self.assertEqual([is_executable(name) for name in ("script", ".", "gone")], [True, False, False])
 
-    def test_version_is_that_of_the_launcher_for_its_own_program(self):
-        self.launcher(f'[ "$1" = bound ] || printf "%s\\n" "egasim 9.9" "commit abc" "{TOTAL}"\n')
+    def test_version_is_that_of_the_checkout_for_its_own_program(self):
+        self.version(f'printf "%s\\n" "egasim 9.9" "commit abc" "{TOTAL}"\n')
         self.assertEqual(version_lines(), ["egasim 9.9", "commit abc", TOTAL])
         self.assertFalse(is_own(version_lines()))
 
     def test_version_tells_of_another_program_alone(self):
-        self.launcher('[ "$1" = bound ] || printf "%s\\n" "egasim 9.9" "commit abc" "program 0"\n')
+        self.version('printf "%s\\n" "egasim 9.9" "commit abc" "program 0"\n')
         self.assertEqual(version_lines(), [f"egasim 9.9{OWN}", TOTAL])
         self.assertTrue(is_own(version_lines()))
         self.assertRegex(own_warning("page"), "^The program was named by whoever made this page")
-
-    def test_version_of_an_installation_is_its_file(self):
-        self.tops("usr/share/egasim")
-        self.assertEqual((version_lines(), is_own(version_lines())), ([TOTAL], True))
-        self.put("usr/share/egasim/VERSION", f"egasim 9.9\n{TOTAL}\n")
-        self.assertEqual((version_lines(), is_own(version_lines())), (["egasim 9.9", TOTAL], False))
-
-    def test_variables_of_git_do_not_reach_the_version(self):
-        self.launcher(f'[ "$1" = bound ] || printf "%s\\n" "egasim 9.9" "$(env | grep -c ^GIT_)" "{TOTAL}"\n')
-        os.environ |= {"GIT_DIR": "/else", "GIT_CONFIG_COUNT": "0"}
-        self.assertEqual(version_lines(), ["egasim 9.9", "0", TOTAL])
 
     def test_what_a_command_prints_and_why_it_is_refused(self):
         with mock.patch.object(module, "program", lambda: f"{self.here}/stand_in"):

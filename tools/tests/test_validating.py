@@ -6,11 +6,14 @@ import sys
 import time
 
 from in_folder import InFolder
-from lib.files import TOOLS, sum_of
-from lib.validating import (FAILED, GATE, LEFT_OUT, PASSED, SMALL, WHOLE, Outcome, Plays, Step, checkout, others, quoted, report, shortages,
-                            steps_of)
+from lib.files import TOP, sum_of
 
-VERSION = ["egasim 9.8.7", "commit abc", "sources with kit 12", "program 34, carried, kit K"]
+DIST = os.path.join(TOP, "dist")
+sys.path.append(DIST)
+from validating import (FAILED, GATE, LEFT_OUT, PASSED, SMALL, WHOLE, Outcome, Plays, Step, checkout, others, quoted,  # noqa: E402
+                        report, shortages, steps_of)
+
+VERSION = ["egasim 9.8.7", "commit abc", "sources with kit 12", "program 34, kit K"]
 
 
 class Validating(InFolder):
@@ -31,7 +34,7 @@ class Validating(InFolder):
 
     def test_each_step_is_a_script_of_the_checkout(self):
         for step in steps_of(WHOLE, 1, 1):
-            self.assertTrue(os.access(os.path.join(os.path.dirname(TOOLS), step.words[0]), os.X_OK), step.words[0])
+            self.assertTrue(os.access(os.path.join(TOP, step.words[0]), os.X_OK), step.words[0])
 
     def test_what_a_step_says_is_kept_and_told(self):
         self.script("bench/good", "echo first; echo 3 of them; echo; echo x: skipped: no cc >&2; echo y skipped >&2")
@@ -88,7 +91,7 @@ class Validating(InFolder):
         self.assertIn("- `bench/a 7` passed in 3 s: 1 | 2; 3", lines)
         self.assertIn("- Checkout: commit abc", lines)
         self.assertEqual(checkout(os.getcwd()), "none")
-        self.assertIn("- Program 34, carried, kit K", lines)
+        self.assertIn("- Program 34, kit K", lines)
         self.assertEqual(lines[-1], "- of `bench/`: b")
         self.assertEqual(others([played], os.getcwd()), ["b"])
         parts = [Outcome(Step(f"c-{seed}", ["bench/c", str(seed)]), PASSED, ["5 equal"], seconds) for seed, seconds in ((1, 9), (2, 7))]
@@ -105,7 +108,7 @@ class Validating(InFolder):
                             ("a --odd", "--odd is no word of it; --help tells the words"),
                             ("a --without gate", "--without takes one of cases, streams, examples, edits, compare, fuzz, refuse, addresses, images"),
                             ("a --gate-log gone", "cannot read gone: No such file or directory")):
-            done = subprocess.run([sys.executable, f"{TOOLS}/validate", *words.split()], capture_output=True, text=True,
+            done = subprocess.run([sys.executable, f"{DIST}/validate", *words.split()], capture_output=True, text=True,
                                   check=False, env=os.environ | {"EGASIM_PROGRAM": "/bin/true"})
             self.assertEqual((done.returncode, done.stdout, done.stderr), (2, "", f"validate: {note}\n"))
             self.assertFalse(os.path.exists("a"))

@@ -1,19 +1,10 @@
-#!/usr/bin/env python3
-"""Prints the manual page of egasim, made from docs/FORMATS.md.
-
-    dist/man_page VERSION PROGRAM <docs/FORMATS.md >egasim.1
-    dist/man_page VERSION PROGRAM another <docs/FORMATS.md >egasim.1    of a program that isn't the proved one
-
-PROGRAM is the line that --version has on the program: its checksum, where it is from, and its kit."""
+"""The manual pages of egasim, made from docs/FORMATS.md, and of its tools, made from their --help."""
 
 import re
-import sys
+from itertools import takewhile
 
-sys.dont_write_bytecode = True
-from lib.documents import ITEM, blocks_of, cells_of  # noqa: E402
-from lib.files import text_on_standard_input  # noqa: E402
-from lib.program import own_warning  # noqa: E402
-from lib.tool import fail, guarded, words_or_help  # noqa: E402
+from lib.documents import ITEM, blocks_of, cells_of
+from lib.program import own_warning
 
 WIDTH = 70  # characters of a table that stands as it is
 CHARACTERS = {"\\": r"\e", "-": r"\-", "'": r"\(aq", "`": r"\(ga", "^": r"\(ha", "~": r"\(ti"}
@@ -68,15 +59,22 @@ def items(lines):
     return result + [".RE"] * depth
 
 
-def page(text, version, program, is_another):
+def head(name, version, told):
+    """The first lines of a page; what a page tells in one line begins with a small letter there."""
+    yield f'.TH {name.upper()} 1 "" "egasim {version}" "User commands"'
+    yield from [".SH NAME", rf"{escaped(name, True)} \- {escaped(told[:1].lower() + told[1:], False)}"]
+
+
+def page(text, version, program, is_another, tools):
+    """The page of the program from the text of docs/FORMATS.md: `program` is the line that --version has on it, and
+    `is_another` tells whether it isn't the proved one."""
     commands = re.findall(r"^\| `([a-z]+ ?[^`]*)` \|", text.partition("## Commands")[2].partition("\n## ")[0], re.M)
-    yield f'.TH EGASIM 1 "" "egasim {version}" "User commands"'
     proved = "" if is_another else ", by a proved program"
-    yield from [".SH NAME", rf"egasim \- simulates the monitoring of engine torque{proved}", ".SH SYNOPSIS"]
+    yield from [*head("egasim", version, f"simulates the monitoring of engine torque{proved}"), ".SH SYNOPSIS"]
     for command in commands:
         name, _, rest = command.partition(" ")
         yield from [rf".B egasim {name}", escaped(rest, True), ".br"] if rest else [rf".B egasim {name}", ".br"]
-    yield from [r"egasim \-\-version", ".br", r"egasim \-\-help"]
+    yield from [r"\fBegasim\fR TOOL [WORDS]", ".br", r"\fBegasim help\fR [NAME]", ".br", r"\fBegasim \-\-version\fR"]
     yield from [".SH WHICH PROGRAM", escaped(program, False), *([".PP", own_warning("installation")] if is_another else [])]
     for kind, lines in blocks_of(text):
         if kind == "heading":
@@ -84,16 +82,18 @@ def page(text, version, program, is_another):
             yield ".SH DESCRIPTION" if len(marks) == 1 else f'.{"SH" if len(marks) == 2 else "SS"} "{plain(name)}"'
         else:
             yield from {"code": code, "table": table, "items": items}.get(kind, lambda lines: [".PP", styled(" ".join(lines))])(lines)
-    yield from [".SH SEE ALSO", r"The folder share/egasim/docs/ of the installation has the documents that are named here.",
-                r"egasim\-answer, egasim\-calibration, egasim\-couple, egasim\-draw_record, egasim\-find, egasim\-fmu, egasim\-image, egasim\-judge, egasim\-keep, egasim\-measured, egasim\-plot, egasim\-report and egasim\-study have \-\-help."]
+    yield from [".SH SEE ALSO", ", ".join(rf"\fBegasim\-{name}\fR(1)" for name in tools) + ".", ".PP",
+                "The folder lib/egasim/docs/ of the installation has the documents that are named here."]
 
 
-def main():
-    version, *others = words_or_help(__doc__)
-    if not others or others[1:] not in ([], ["another"]):
-        fail("no such words; --help tells them")
-    print("\n".join(page(text_on_standard_input(), version, others[0], len(others) > 1)))
-
-
-if __name__ == "__main__":
-    guarded(main)
+def tool_page(name, text, version):
+    """The page of a tool, from what its --help prints: its forms stand behind the first lines."""
+    (_, first), *others = blocks_of(text)
+    told, *rest = re.split(r"(?<=\.) (?=[A-Z])", " ".join(first), maxsplit=1)
+    forms = list(takewhile(lambda block: block[0] == "code", others))
+    yield from [*head(f"egasim-{name}", version, told.removesuffix(".")), ".SH SYNOPSIS"]
+    yield from (line for _, lines in forms for line in code(lines))
+    yield from [".SH DESCRIPTION", *(escaped(text, False) for text in rest)]
+    for kind, lines in others[len(forms):]:
+        yield from code(lines) if kind == "code" else [".PP", r"\&" + escaped(" ".join(lines), False)]
+    yield from [".SH SEE ALSO", r"\fBegasim\fR(1)"]
