@@ -94,7 +94,7 @@ def whole_output():
     """Standard output by a writer that writes all of it or fails. That of Python writes once, and perhaps a part, if
     PYTHONUNBUFFERED is set."""
     file = io.FileIO(sys.stdout.fileno(), "w", closefd=False)
-    return io.TextIOWrapper(io.BufferedWriter(file), sys.stdout.encoding, sys.stdout.errors)
+    return io.TextIOWrapper(io.BufferedWriter(file), sys.stdout.encoding, sys.stdout.errors, line_buffering=file.isatty())
 
 
 def leave_output():
