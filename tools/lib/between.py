@@ -5,19 +5,20 @@
 NOISE and RECORDING are the words behind these options, or empty; WORDS are those of `egasim couple`. With `try` the options
 alone are checked."""
 
-import collections
-import contextlib
-import csv
-import io
 import os
-import shlex
-import subprocess
 import sys
-import threading
 
 sys.dont_write_bytecode = True
 sys.argv[0] = sys.argv.pop(1)  # the tool, in whose name is told what goes wrong
 sys.path.insert(0, os.path.dirname(os.path.dirname(os.path.realpath(__file__))))
+import lib  # noqa: E402, F401, before all others
+import collections  # noqa: E402
+import contextlib  # noqa: E402
+import csv  # noqa: E402
+import io  # noqa: E402
+import shlex  # noqa: E402
+import subprocess  # noqa: E402
+import threading  # noqa: E402
 from lib.calibration import calibration_of  # noqa: E402
 from lib.campaigns import run_of  # noqa: E402
 from lib.files import refuse_input, write  # noqa: E402

@@ -2,6 +2,8 @@
 
 import io
 import os
+import stat
+import struct
 import zipfile
 import zlib
 from types import SimpleNamespace
@@ -11,34 +13,74 @@ from lib.files import MOST_BYTES, read
 from lib.tool import fail
 
 DESCRIPTION, LIBRARIES, RESOURCES = "modelDescription.xml", "binaries/linux64", "resources"
+MOST_DESCRIBED, MOST_PARTS = 1 << 24, 1 << 19  # bytes of a description; its elements and attributes
 KINDS = ("Real", "Integer", "Boolean", "String", "Enumeration")
-BROKEN = (zipfile.BadZipFile, zlib.error, EOFError, NotImplementedError, RuntimeError)
+BROKEN = (zipfile.BadZipFile, zlib.error, struct.error, EOFError, NotImplementedError, RuntimeError, ValueError)
 
 
 def unpacked(name, room):
     """The description of an FMU, whose library and resources are put into the folder `room`."""
     try:
         archive = zipfile.ZipFile(io.BytesIO(read(name)))
-        names = archive.namelist()
+        parts = {part.filename: part for part in archive.infolist()}
         if sum(part.file_size for part in archive.infolist()) > MOST_BYTES:
             fail(f"{name}: more than {MOST_BYTES} bytes in the archive")
-        if DESCRIPTION not in names:
+        if DESCRIPTION not in parts:
             fail(f"{name} is no FMU: it has no {DESCRIPTION}")
+        if parts[DESCRIPTION].file_size > MOST_DESCRIBED:
+            fail(f"{name}: {DESCRIPTION} has more than {MOST_DESCRIBED} bytes")
+        check(name, parts[DESCRIPTION])
         description = described(f"{name}: {DESCRIPTION}", archive.read(DESCRIPTION))
         wanted = f"{LIBRARIES}/{description.identifier}.so"
-        if wanted not in names:
+        if wanted not in parts:
             fail(f"{name} has no library for 64-bit Linux: {wanted} isn't in it")
-        archive.extractall(room, [part for part in names if part.startswith((f"{LIBRARIES}/", f"{RESOURCES}/"))])
+        for part in parts.values():
+            if part.filename.startswith((f"{LIBRARIES}/", f"{RESOURCES}/")):
+                put(name, archive, part, room)
     except BROKEN as error:
-        fail(f"{name} is no FMU: {error}")
+        fail(f"{name} is no FMU: {str(error) or 'it ends too soon'}")
     description.library, description.resources = os.path.join(room, wanted), os.path.join(room, RESOURCES)
     return description
+
+
+def check(name, part):
+    """Ends if a file of an archive is a link, or compressed as no FMU is, which may take any memory."""
+    if part.compress_type not in (zipfile.ZIP_STORED, zipfile.ZIP_DEFLATED):
+        fail(f"{name}: {part.filename} is compressed otherwise than by deflate")
+    if stat.S_ISLNK(part.external_attr >> 16):
+        fail(f"{name}: {part.filename} is a link, and files are wanted")
+
+
+def put(name, archive, part, room):
+    """Puts a file of an archive into a folder."""
+    check(name, part)
+    try:
+        archive.extract(part, room)
+    except OSError as error:
+        fail(f"{name}: {part.filename} can't be unpacked: {error.strerror}")
+
+
+class Parts(ElementTree.TreeBuilder):
+    """The tree of a description, within bounds: of its parts, and without entities, which may make a long text of a short one."""
+
+    def __init__(self, name):
+        super().__init__()
+        self.name, self.count = name, 0
+
+    def start(self, tag, attrs):
+        self.count += 1 + len(attrs)
+        if self.count > MOST_PARTS:
+            fail(f"{self.name}: more than {MOST_PARTS} elements and attributes")
+        return super().start(tag, attrs)
+
+    def doctype(self, *_):
+        fail(f"{self.name}: a document type, which no FMU has")
 
 
 def described(name, content):
     """What a description says: model, GUID, the library's name, and the variables by their names."""
     try:
-        root = ElementTree.fromstring(content)
+        root = ElementTree.fromstring(content, ElementTree.XMLParser(target=Parts(name)))
     except (ElementTree.ParseError, LookupError, ValueError) as error:
         fail(f"{name}: not XML: {error}")
     version = root.get("fmiVersion")

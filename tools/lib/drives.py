@@ -8,13 +8,13 @@ from fractions import Fraction
 
 from lib.campaigns import Campaign, run_text
 from lib.files import written
-from lib.holding import (BEFORE, BEHIND, BETWEEN, DISAGREE, FALLING, NO_COMPLEMENT, NO_NUMBER, ROUNDED, SAME_TIME, TOO_HIGH, TOO_LOW,
-                         TOO_OLD, Counts, Grid, Held)
+from lib.holding import (BEFORE, BEHIND, BETWEEN, DISAGREE, FALLING, NO_COMPLEMENT, NO_NUMBER, NUMBERS, ROUNDED, SAME_TIME,
+                         TOO_HIGH, TOO_LOW, TOO_OLD, Counts, Grid, Held)
 from lib.measurements import DECIMALS, DELIMITERS, Measurement
 from lib.tool import fail
 from lib.units import NANOSECONDS, decimal, time_told
 
-MOST_OF_TRACE, MOST_TICKS = 20000, 20000000  # ticks of a trace (docs/FORMATS.md), and of all that is made
+MOST_OF_TRACE, MOST_TICKS = 20000, 4000000  # ticks of a trace (docs/FORMATS.md), and of all that is made
 # What is told of a column, in this order: what was done, and behind the first time how much of it was the most.
 WORDS = {
     NO_NUMBER: ("samples left out, no numbers", None),
@@ -104,9 +104,9 @@ class Drive:
             held = self.held[source.key]
             if why:
                 held.counts.add(why, time)
-            elif time - self.grid.start >= MOST_TICKS * self.grid.tick:
+            elif self.grid.before(time + 1) > MOST_TICKS:
                 fail(f"{self.measurement.name}: line {line}: {told_at(time)} is more than {MOST_TICKS} ticks behind tick 0: is "
-                     "time.unit right?")
+                     "time.unit right? time.from and time.to say a part that may be made by itself")
             else:
                 held.add(time, said)
                 end = max(end, time)
@@ -120,16 +120,16 @@ class Drive:
         if source.channel is not None:
             return self.held[source.key].values
         if source.value is not None:
-            return array("q", [source.value]) * self.ticks
+            return array(NUMBERS, [source.value]) * self.ticks
         origin = self.mapping.sources[source.of]
-        values = self.held[origin.key].values if origin.channel is not None else array("q", [origin.value]) * self.ticks
+        values = self.held[origin.key].values if origin.channel is not None else array(NUMBERS, [origin.value]) * self.ticks
         if source.complement is None:
             return values
         counts = self.counts.setdefault(source.key, Counts())
         for tick, value in enumerate(values):
             if value > source.complement:
                 counts.add(TOO_LOW, self.grid.time(tick), 1, value - source.complement)
-        return array("q", [max(0, source.complement - value) for value in values])
+        return array(NUMBERS, [max(0, source.complement - value) for value in values])
 
     def compare(self):
         """Counts the ticks at which two columns don't fit together."""

@@ -2,6 +2,7 @@
 another name until they are whole, so that whoever reads meanwhile has the old file or the new one."""
 
 import contextlib
+import errno
 import fcntl
 import hashlib
 import os
@@ -108,8 +109,20 @@ def written(name, mode=None):
             raise
         fail(f"cannot write {name}: {error.strerror}")
     finally:
-        if os.path.lexists(part):
-            os.unlink(part)
+        undisturbed(remove, part)
+
+
+def renamed(path, target):
+    """Whether a folder has got its name, which nothing had before; two calls may try at once."""
+    if os.path.lexists(target):
+        return False
+    try:
+        os.rename(path, target)
+    except OSError as error:
+        if error.errno not in (errno.EEXIST, errno.ENOTEMPTY, errno.ENOTDIR):
+            raise
+        return False
+    return True
 
 
 def replaceable(name):
@@ -153,8 +166,22 @@ def room_in(folder):
     try:
         yield room
     finally:
-        shutil.rmtree(room, ignore_errors=True)
+        undisturbed(shutil.rmtree, room, ignore_errors=True)
         os.close(handle)
+
+
+def undisturbed(removes, *what, **how):
+    """Removes something, and does so once more where a signal that ends the tool comes meanwhile; no second one does."""
+    try:
+        removes(*what, **how)
+    except SystemExit:
+        removes(*what, **how)
+        raise
+
+
+def remove(path):
+    with contextlib.suppress(FileNotFoundError):
+        os.unlink(path)
 
 
 def make_folder(**where):

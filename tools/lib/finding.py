@@ -10,7 +10,6 @@ import io
 import itertools
 import os
 import re
-import subprocess
 import sys
 from concurrent.futures import ThreadPoolExecutor
 from dataclasses import dataclass, field
@@ -19,7 +18,7 @@ from lib.answering import with_answers
 from lib.calibration import WATCHES
 from lib.files import read
 from lib.placing import with_ramp
-from lib.program import program
+from lib.program import note_in, run
 from lib.putting import parsed, with_numbers
 from lib.tool import TOOL, as_noted, fail
 from lib.verdicts import WITHOUT_LAPSES, held_of, idle_by, is_on_first_ramp
@@ -66,7 +65,7 @@ class Search:
     """A calibration to start from, and what is to be let through, with all that is asked of the result."""
 
     def __init__(self, asked, room):
-        self.asked, self.room, self.name = asked, room, asked.cal
+        self.asked, self.room, self.name, self.is_ended = asked, room, asked.cal, False
         self.limits_by(asked.cal)  # so that whatever is wrong with the file is told by its name
         self.text = read(asked.cal).decode()
         self.start, self.numbers = parsed(asked.cal, self.text), itertools.count(1)
@@ -88,10 +87,11 @@ class Search:
         """What a command prints, whether or not the drives are cut. With --verbose it is told as it could be typed."""
         if self.asked.verbose:
             print(as_noted(f"{TOOL}: egasim {' '.join(words)}{f' <{given}' if given else ''}"), file=sys.stderr)
-        with open(given or os.devnull, "rb") as lines:
-            done = subprocess.run([program(), *words], stdin=lines, capture_output=True, check=False)
+        if self.is_ended:
+            fail("the search has ended")
+        done = run(words, read(given) if given else b"")
         if done.returncode:
-            fail(f"egasim {words[0]}: {done.stderr.decode(errors='replace').strip() or f'status {done.returncode}'}")
+            fail(f"egasim {words[0]}: {note_in(done, {'standard input': given} if given else {})}")
         return done.stdout.decode()
 
     def limits_by(self, path):
@@ -220,9 +220,12 @@ class Search:
         thresholds, falls = zip(*itertools.product(self.asked.thresholds, ramps))
         with ThreadPoolExecutor(os.cpu_count() or 1) as pool:
             rows = []
-            for row in pool.map(self.row_of, thresholds, falls):
-                rows.append(row)
-                self.tell_progress(len(rows), len(thresholds))
+            try:
+                for row in pool.map(self.row_of, thresholds, falls):
+                    rows.append(row)
+                    self.tell_progress(len(rows), len(thresholds))
+            finally:
+                self.is_ended = len(rows) < len(thresholds)  # and no row that is begun calls the program once more
             return rows
 
     def on_first_ramp(self, rows):

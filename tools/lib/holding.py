@@ -8,6 +8,7 @@ from types import SimpleNamespace
 NO_NUMBER, FALLING, SAME_TIME = "no number", "time falls", "same time"
 BEFORE, BETWEEN, BEHIND = "before", "between", "behind"
 TOO_OLD, ROUNDED, TOO_LOW, TOO_HIGH = "too old", "rounded", "too low", "too high"
+NUMBERS = "H"  # what arrays of values hold: numbers from 0 to 65535, the most that a column takes
 DISAGREE, NO_COMPLEMENT = "disagree", "no complement"
 
 
@@ -43,7 +44,7 @@ class Held:
 
     def __init__(self, source, grid):
         self.source, self.grid, self.counts = source, grid, Counts()
-        self.values, self.samples, self.last, self.said = array("q"), 0, None, {}
+        self.values, self.samples, self.last, self.said = array(NUMBERS), 0, None, {}
         self.gaps = []  # (first tick, tick behind the last) that were held too long
 
     def add(self, time, said):
@@ -73,7 +74,7 @@ class Held:
             return
         value, error, beyond = self.taken(said)
         at, count = self.grid.time(begin), end - begin
-        self.values.extend(array("q", [value]) * count)
+        self.values.extend(array(NUMBERS, [value]) * count)
         if error:
             self.counts.add(ROUNDED, at, count, error)
         if beyond:
@@ -98,7 +99,7 @@ class Held:
             self.counts.add(BEHIND, self.last[0])
         if self.source.is_edge:
             before = self.values[:1] + self.values[:-1]
-            self.values = array("q", [int(one > 0 and other <= 0) for one, other in zip(self.values, before)])
+            self.values = array(NUMBERS, [int(one > 0 and other <= 0) for one, other in zip(self.values, before)])
 
 
 def taken(source, said):

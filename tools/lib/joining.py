@@ -14,7 +14,7 @@ from lib.studies import called, line_of, program_of, words_of
 from lib.tool import as_noted, fail
 from lib.units import Units, units_of
 
-ROW = re.compile(r'[^"\n]*(?:"[^"]*"[^"\n]*)*\n')  # of a plan: what stands in quotes may go over lines
+ROW = re.compile(r'[^"\n]*+(?:"[^"]*+"[^"\n]*+)*+\n')  # of a plan: what stands in quotes may go over lines
 SUMMED = ("class", "onset", "acted", "first", "confirmed", "stretch", "reaction", "settled", "bound")  # columns of `table`
 
 
@@ -22,11 +22,12 @@ def join(path, tick=None, folder=None):
     """Writes study.csv and matrix.csv of the tables that count, prints their summary, and tells which campaigns have none. A study that has
     all is kept in a folder, if one is named."""
     refuse_changes(path)
+    way = program_of(path)
     units = units_of(tick, [os.path.join(path, "inputs", "calibration.toml")])
     numbers = sorted(name[:-5] for name in os.listdir(f"{path}/campaigns") if name.endswith(".toml"))
     faults = {number: fault_of_table(path, number) for number in numbers}
     good = [number for number in numbers if not faults[number]]
-    with calls_kept(folder, program_of(path), path) as kept:
+    with calls_kept(folder, way, path) as kept:
         bounds = bounds_of(path)
         if good:
             print_summary(write_joined(path, good), bounds, units)
@@ -103,7 +104,7 @@ def write_joined(path, numbers):
 def rows_of(path, number):
     """The rows of a campaign below their heads, what was planned before what was played; and what a summary needs of a row, with
     the number of rows that are alike in that. In a table nothing is quoted (docs/FORMATS.md, F30)."""
-    planned = ROW.findall(text_of(f"{path}/campaigns/{number}.csv"))
+    planned = list(lines_of_plan(text_of(f"{path}/campaigns/{number}.csv")))
     played = [line.partition(",") for line in text_of(f"{path}/tables/{number}.csv").splitlines()]
     cells = [rest.split(",") for _, _, rest in played]
     if len(planned) != len(played) or not all(map(str.startswith, planned, [f"{run}," for run, _, _ in played])) \
@@ -113,6 +114,14 @@ def rows_of(path, number):
     alike = Counter(map(itemgetter(*[places[head] for head in SUMMED]), cells[1:]))
     return ([f"{plan[:-1]},{rest}\n" for plan, (_, _, rest) in zip(planned, played)],
             [(dict(zip(SUMMED, row)), count) for row, count in alike.items()])
+
+
+def lines_of_plan(text):
+    """The lines of a plan, up to where there is none. Each is looked for where the one before it ends, and nowhere else."""
+    place = 0
+    while match := ROW.match(text, place):
+        yield match[0]
+        place = match.end()
 
 
 class Summary:

@@ -10,7 +10,7 @@ import re
 import shlex
 import sys
 
-from lib.files import read, room_in, sum_of, sum_of_file, text_in, within_bounds
+from lib.files import read, renamed, room_in, sum_of, sum_of_file, text_in, within_bounds
 from lib.program import CALLS, program, run, version_lines
 from lib.toml import toml_in
 from lib.tool import TOOL, as_noted, fail
@@ -19,6 +19,7 @@ ON_INPUT = ("replay", "signals", "couple")  # commands that read standard input
 # What a command reads of the runs of its campaign: of all, or of the one that it names.
 OF_ALL, OF_ONE = ("run", "table", "margins"), ("record", "sweep", "couple")
 COMPARED = ("read.sum", "status", "notes", "output")  # of each call, behind the version
+PROGRAM = "egasim"  # the first word of each command that is kept
 SUMS, NAME = "kept.sum", re.compile(r"(?:[0-9]{5,}/)?[a-z]+(?:\.sum)?")  # a name that stands there
 
 
@@ -75,7 +76,8 @@ def keeping(name, way=None, place=""):
             kept.sealed()
         if sum_of_file(way) != total:
             fail("the program changed meanwhile")
-        os.rename(kept.room, name)
+        if not renamed(kept.room, name):
+            fail(f"{name} is there already")
 
 
 @contextlib.contextmanager
@@ -104,7 +106,7 @@ def keep(folder, words):
         done, files = made(words, given, kept.way)
         for name, content in files.items():
             kept.put(name, content)
-    print(as_noted(f"{folder}: {shlex.join(['egasim', *words])}: status {done.returncode}"))
+    print(as_noted(f"{folder}: {shlex.join([PROGRAM, *words])}: status {done.returncode}"))
 
 
 def version(way):
@@ -122,7 +124,7 @@ def made(words, given, way, place=""):
 
 def files_of(words, sums, output, notes=b"", status=0, given=b""):
     """What is kept of a command that was run, by the names of the files."""
-    files = {"command": (shlex.join(["egasim", *words]) + "\n").encode(), "read.sum": sums.encode(),
+    files = {"command": (shlex.join([PROGRAM, *words]) + "\n").encode(), "read.sum": sums.encode(),
              "status": f"{status}\n".encode(), "output": output, "notes": notes}
     return files | ({"input": given} if words[0] in ON_INPUT else {})
 
@@ -195,16 +197,25 @@ def again(folder):
     for part in parts:
         path = os.path.join(folder, part)
         command = read(os.path.join(path, "command")).decode().strip()
+        words = shlex.split(command)
+        if words[:1] != [PROGRAM] or len(words) < 2:
+            fail(f"{os.path.join(path, 'command')} has {command}, which is no command of {PROGRAM}")
         given = read(os.path.join(path, "input")) if "input" in calls[part] else b""
-        _, new = made(shlex.split(command)[1:], given, way, place)
+        _, new = made(words[1:], given, way, place)
         found = differences(path, {name: new[name] for name in COMPARED})
         told += [f"{part}: {command}: {line}" if part else line for line in found]
     said = f"{len(parts)} calls of {os.fsdecode(read(os.path.join(folder, 'tool'))).strip()}" if "tool" in top else command
-    print(as_noted(f"{folder}: {said}: {'otherwise' if told else 'the same'}"))
+    print(as_noted(f"{folder}: {said}: {verdict_on(told)}"))
     for line in told:
         print(as_noted(line))
     if told:
         sys.exit(1)
+
+
+def verdict_on(told):
+    """In a word what is otherwise, by the lines that tell each difference."""
+    is_version = [line.startswith("version: ") for line in told]
+    return "version and program alone are otherwise" if told and all(is_version) else "otherwise" if told else "the same"
 
 
 def calls_in(folder):

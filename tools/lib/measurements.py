@@ -48,18 +48,20 @@ class Measurement:
     def found(self, channels):
         """The delimiter, and the names of the first line that has all channels: (line, cells)."""
         texts = {channel for channel in channels if isinstance(channel, str)}
-        best = (0, 0, ",", [])
+        best = (0, 0, 0, ",", [])
         for delimiter in [self.form.delimiter] if self.form.delimiter else DELIMITERS:
             for number, row in self.lines(delimiter, MOST_ABOVE):
                 names = [cell.strip() for cell in row]
-                best = max(best, (len(texts & set(names)), -number, delimiter, names), key=lambda one: one[:2])
-        count, number, delimiter, names = best
+                count = len(texts & set(names))
+                best = max(best, (count, 0 if count else like_names(names), -number, delimiter, names), key=lambda one: one[:3])
+        count, words, number, delimiter, names = best
         if not texts:
             fail(f"{self.name}: a channel must be said by its name, so that the line of names is found")
         if count < len(texts):
             lacking = next(channel for channel in channels if isinstance(channel, str) and channel not in names)
-            told = names_told(names) if count else "no line has one"
-            fail(f"{self.name} has no channel {lacking} in one line with the others; {told}")
+            there = f"its names are {names_told(names)}" if count else "no line has one"
+            there += f"; line {-number} has {names_told(names)}" if words else ""
+            fail(f"{self.name} has no channel {lacking} in one line with the others; {there}")
         return delimiter, (-number, names)
 
     def column(self, channel):
@@ -164,7 +166,12 @@ def encoding_of(name, content, encoding):
     return fail(f"{name} isn't {tried[0].upper()}")
 
 
+def like_names(cells):
+    """How many of these cells may be names of channels."""
+    return len({cell for cell in cells if cell and not NUMBER.fullmatch(cell.replace(",", ".", 1))})
+
+
 def names_told(names):
     """The names of a measurement in words."""
     more = f" and {len(names) - MOST_NAMED} more" if len(names) > MOST_NAMED else ""
-    return f"its names are {', '.join(names[:MOST_NAMED])}{more}"
+    return f"{', '.join(names[:MOST_NAMED])}{more}"

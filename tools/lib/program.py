@@ -1,6 +1,7 @@
 """The program: which one it is, what is told of it, and what its commands print."""
 
 import os
+import re
 import shlex
 import subprocess
 import sys
@@ -10,6 +11,7 @@ from lib.files import TOOLS, TOP, read, room_in, sum_of
 from lib.tool import TOOL, as_noted, fail
 
 CALLS = {"shown": False, "kept": None}  # whether each call is shown; the folder in which each is kept (lib/keeping.py), if any
+NOT_UTF8 = re.compile("[\udc80-\udcff]")  # what Python makes of such bytes
 OWN = ", by a program of your own"  # what a version has behind it if the program is another one
 
 
@@ -68,8 +70,12 @@ def own_warning(place):
 
 
 def run(words, given=b"", way=None, place=None):
-    """Runs a command of the program, or of the one at `way`, in the folder of the call or in another one."""
-    return subprocess.run([way or program(), *words], input=given, cwd=place or None, capture_output=True, check=False)
+    """Runs a command of the program, or of the one at `way`, in the folder of the call or in another one. The program takes
+    no word that isn't UTF-8, its own name included, and doesn't say which word that is."""
+    for word in filter(NOT_UTF8.search, words):
+        fail(f"{word} isn't UTF-8, and the program takes no such name")
+    return subprocess.run(["egasim", *words], executable=way or program(), input=given, cwd=place or None, capture_output=True,
+                          check=False)
 
 
 def call(words, given=b"", way=None, place=None):
@@ -81,14 +87,18 @@ def printed_by(*words, readings=None, shown=None):
     """What a command of the program prints, with this file on standard input. If it is refused, its note is told, where
     `shown` may have other names for those that the program was given."""
     show_call(words, readings)
-    given, shown = read(readings) if readings else b"", shown or {}
-    done = call(words, given)
+    done = call(words, read(readings) if readings else b"")
     if done.returncode:
-        note = done.stderr.decode(errors="replace").strip()
-        for name, other in {**shown, **({"standard input": readings} if readings else {})}.items():
-            note = note.replace(name, other)
-        fail(f"egasim {words[0]}: {note or f'status {done.returncode}'}")
+        fail(f"egasim {words[0]}: {note_in(done, {**(shown or {}), **({'standard input': readings} if readings else {})})}")
     return done.stdout.decode()
+
+
+def note_in(done, shown):
+    """Why a command was refused, where `shown` has other names for those that the program was given."""
+    note = done.stderr.decode(errors="replace").strip()
+    for name, other in shown.items():
+        note = note.replace(name, other)
+    return note or f"status {done.returncode}"
 
 
 def printed_of(command, *words, text, name="calibration.toml"):

@@ -1,7 +1,6 @@
 """The folder of a study: campaigns, inputs, the program, and what plays them."""
 
 import csv
-import errno
 import io
 import itertools
 import os
@@ -10,7 +9,7 @@ from collections import deque
 from concurrent.futures import ThreadPoolExecutor
 
 from lib.campaigns import Campaign, keys_text, run_text
-from lib.files import TOOLS, read, room_in, sum_of
+from lib.files import TOOLS, read, renamed, room_in, sum_of, sum_of_file
 from lib.plans import PARAMETERS, checked_plan, groups_of
 from lib.program import call, program
 from lib.toml import toml_text
@@ -79,11 +78,16 @@ class Folder:
 
 def called(path, command, *words):
     """A command of the program in the folder of a study, by the study's calibration."""
-    return call(words_of(path, command, *words), way=program_of(path), place=path)
+    return call(words_of(path, command, *words), place=path)
 
 
 def program_of(path):
-    return os.path.abspath(os.path.join(path, "egasim"))
+    """The program of a study that is there, if it is the one that the tools call: no other one is run, since whoever made the
+    folder may have put any program there."""
+    own, there = program(), os.path.join(path, "egasim")
+    if not os.path.isfile(there) or sum_of_file(there) != sum_of_file(own):
+        fail(f"{there} isn't the program of these tools, and isn't run; if you trust it, say EGASIM_PROGRAM={there}")
+    return own
 
 
 def words_of(path, command, *words):
@@ -111,19 +115,6 @@ def write_study(name, target):
             fail(f"{target} is there, and isn't of this plan, these inputs, this program and these tools")
     tables = os.listdir(f"{target}/tables") if os.path.isdir(f"{target}/tables") else []
     return folder.runs, folder.count, sum(name.endswith(".csv") for name in tables)
-
-
-def renamed(path, target):
-    """Whether a folder has got its name, which nothing had before; two calls may try at once."""
-    if os.path.lexists(target):
-        return False
-    try:
-        os.rename(path, target)
-    except OSError as error:
-        if error.errno not in (errno.EEXIST, errno.ENOTEMPTY):
-            raise
-        return False
-    return True
 
 
 def put_inputs(folder, plan, name):

@@ -11,6 +11,7 @@ MOST_DEPTH, MOST_DOTS = 32, 2000  # of a file: tables and lists within each othe
 # What may hold dots that aren't of a key: texts, over lines or not, and comments. One without an end goes to the end.
 LONG_TEXTS = r'''"""(?:\\.|[^\\])*?(?:"{3,5}|\\?\Z)|\'\'\'.*?(?:'{3,5}|\Z)'''
 TEXT = re.compile(LONG_TEXTS + r'''|"(?:\\.|[^"\\\n])*"?|'[^'\n]*'?|#[^\n]*''', re.S)
+LONG_SIGNS = ('"""', "'''")
 BARE = re.compile(r"[A-Za-z0-9_-]+")
 NOT_PLAIN = re.compile(r'["\\\x00-\x1f\x7f]')  # what stands in a text by its number
 
@@ -22,10 +23,13 @@ def toml_of(name):
 
 def toml_in(name, text):
     """What the text of a TOML file holds. Python's tomllib takes time by the square of a key's dots, and by those of a
-    table for each key in it, so they are counted first; and it takes numbers of any length, where TOML has 64 bits."""
+    table for each key in it, so they are counted first; it takes numbers of any length, where TOML has 64 bits; and it makes
+    LF of CR LF, so that a name in a text of several lines might be another one than the program reads."""
     dots = [line.count(".") for line in TEXT.sub("_", text).split("\n")]
     if sum(dots) > MOST_DOTS or max(dots) > MOST_DEPTH:
         fail(f"{name}: more than {MOST_DOTS} dots in keys, or {MOST_DEPTH} in a line")
+    if any(match[0].startswith(LONG_SIGNS) and "\r\n" in match[0] for match in TEXT.finditer(text)):
+        fail(f"{name}: a text of several lines has CR LF, which the program keeps and Python's tomllib doesn't: write it in one line")
     try:
         held = tomllib.loads(text)
     except (ValueError, RecursionError) as error:

@@ -258,13 +258,21 @@ class Worked(InFolder):
                 (["0,NaN", "10,"], "m.csv: p has no number, from which pedal is to be made"),
                 (["0,1", ",2"], "m.csv: line 3 has no time in t, and a value of one of its channels"),
                 (["0,1", "10,1.5.5"], "m.csv: line 3: p has 1.5.5, which is no number with the decimal sign ."),
-                (["0,1", "1e11,1"], "m.csv: line 3: 100000000 s is more than 20000000 ticks behind tick 0: is time.unit right?"),
+                (["0,1", "1e11,1"], "m.csv: line 3: 100000000 s is more than 4000000 ticks behind tick 0: is time.unit right? "
+                 "time.from and time.to say a part that may be made by itself"),
                 (["0,1", "1,5,1"], "m.csv: line 3 has more cells than line 1 has names; is the sign between them also that of decimals?")):
             self.assertEqual(self.note(rows), note)
         for times, note in (("from = -1", "m.csv: p has its first number at 0 s, behind time.from, -0.001 s"),
                             ("from = 11", "m.csv has no sample at time.from or behind it, up to time.to"),
                             ("to = -1", "m.csv has no sample at time.from or behind it, up to time.to")):
             self.assertEqual(self.note(["0,1", "10,2"], HEAD + times + "\n" + KEYS), note)
+
+    def test_a_part_may_be_made_of_what_has_too_many_ticks(self):
+        far = drives.MOST_TICKS * 10
+        self.assertEqual(self.drive(["0,1", f"{far - 10},2"], 'gap = "cut"\n' + HEAD + KEYS).ticks, drives.MOST_TICKS)
+        self.assertRegex(self.note(["0,1", f"{far},2"]), "ticks behind tick 0: is time.unit right?")
+        self.assertEqual(self.pedals(["0,1", f"{far},2"], HEAD + "to = 20\n" + KEYS), [1, 1, 1])
+        self.assertEqual(self.pedals(["0,1", f"{far},2"], HEAD + f"from = {far - 10}\n" + KEYS), [1, 2])
 
     def test_told(self):
         drive = self.drive(["0,1.25", "10,NaN", "60,-3"], 'gap = "cut"\n' + HEAD + KEYS)

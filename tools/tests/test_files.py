@@ -9,7 +9,7 @@ import threading
 from unittest import mock
 
 from lib import files
-from lib.files import (read, refuse_input, remove_left, room_in, sum_of, sum_of_file, text_in, text_of,
+from lib.files import (read, refuse_input, remove_left, renamed, room_in, sum_of, sum_of_file, text_in, text_of,
                        text_on_standard_input, write, written)
 from in_folder import InFolder
 from notes import note_of
@@ -156,6 +156,15 @@ resource.setrlimit(resource.RLIMIT_FSIZE, (1000, 1000)); write("a", bytes(5000))
         self.assertEqual((done.returncode, done.stderr), (1, "-c: cannot write a: File too large\n"))
         self.assertEqual((read("a"), self.names()), (b"old", ["a"]))
         self.assertNotEqual(resource.getrlimit(resource.RLIMIT_FSIZE)[0], 1000)
+
+    def test_folder_gets_its_name_once(self):
+        for name in ("a", "b", "full/inner", "empty"):
+            os.makedirs(name)
+        self.assertEqual((renamed("a", "c"), renamed("b", "c"), renamed("b", "full"), renamed("b", "empty")),
+                         (True, False, False, False))
+        with mock.patch.object(files.os.path, "lexists", return_value=False):  # another call comes in between
+            self.assertFalse(renamed("b", "full"))
+        self.assertRaises(FileNotFoundError, renamed, "gone", "d")
 
     def test_two_at_once_each_write_a_whole_file(self):
         def writes(letter):

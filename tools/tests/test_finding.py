@@ -1,13 +1,19 @@
 """The search of tools/find: what is least, what fits, and what is on the front, each by another way."""
 
+import os
 import random
+import time
 import unittest
 from types import SimpleNamespace
+from unittest import mock
 from xml.etree import ElementTree
 
+from in_folder import InFolder
 from lib.finding import Row, Search, is_on_front
 from lib.found import HEIGHT, TOP, picture_of, table_of
+from lib.tool import fail
 from lib.units import Units
+from notes import note_of
 
 
 def search_with(room=0, left=27, misses=1, spacing=None, said=()):
@@ -22,6 +28,39 @@ def row_of(threshold, excess, reaction, hindrance="", fall=None, ramp="0"):
     limits = {"excess": str(excess), "reaction": str(reaction), "stretch": str(excess - 1 + reaction), "verdicts": "3",
               "lapse": "none", "spacing": "80", "ramp": ramp}
     return Row(threshold, fall, max(0, int(ramp) - 1), 4, 0, "town", 5, 10, 34, {}, {"period": 7}, limits, hindrance)
+
+
+class Calling(InFolder):
+    """A search whose program is a stand-in."""
+
+    def setUp(self):
+        super().setUp()
+        self.put("p", "#!/bin/sh\ncat >&2\nexit 3\n", 0o755)
+        self.enterContext(mock.patch("lib.program.program", lambda: os.path.abspath("p")))
+        self.search = search_with()
+        self.search.asked.verbose, self.search.is_ended = False, False
+
+    def test_recording_is_told_by_its_name(self):
+        self.put("drive.csv", "standard input: header\n")
+        self.assertEqual(note_of(lambda: self.search.call("replay", given="drive.csv")), "egasim replay: drive.csv: header")
+
+    def test_recording_that_has_no_end_is_refused(self):
+        os.mkfifo("fifo")
+        for name in ("fifo", "/dev/zero"):
+            self.assertEqual(note_of(lambda name=name: self.search.call("replay", given=name)), f"{name} is no file")
+
+    def test_search_that_ends_calls_the_program_no_more(self):
+        self.search.asked.ramps, self.search.asked.thresholds = [0], range(100)
+        calls = []
+
+        def row_of_one(threshold, _):
+            calls.append(threshold)
+            return fail("a signal, or so") if threshold == 0 else time.sleep(0.01)
+
+        self.search.row_of = row_of_one
+        self.assertEqual(note_of(self.search.rows), "a signal, or so")
+        self.assertLess(len(calls), 100)
+        self.assertEqual(note_of(lambda: self.search.call("limits")), "the search has ended")
 
 
 class Finding(unittest.TestCase):

@@ -4,6 +4,7 @@ import contextlib
 import io
 import os
 import subprocess
+import time
 from unittest import mock
 
 from lib import joining
@@ -41,6 +42,8 @@ class Joining(InFolder):
             self.put(f"s/campaigns/{number}.sum", STAMP.format(number))
             self.put(f"s/campaigns/{number}.csv", PLANNED[number])
             self.play(number, PLAYED[number])
+        self.put("s/egasim", b"\x7fELF", 0o755)
+        self.enterContext(mock.patch.dict(os.environ, EGASIM_PROGRAM="s/egasim"))
         self.enterContext(limits())
 
     def play(self, number, table):
@@ -62,7 +65,6 @@ r3,a.csv,i.hex,halt,90,0,,,0,,,34
                          '"nothing, excess"\nnone,0,0,0,0,0,1,0,0,0,0\nhalt,0,0,0,0,0,0,0,0,1,1\n')
 
     def test_a_study_that_has_all_tables_is_kept(self):
-        self.put("s/egasim", b"\x7fELF", 0o755)
         out, _, note = said_by(join, "s", None, "k")
         self.assertEqual((note, out.splitlines()[-1]), (None, f"kept in k, whose kept.sum has the SHA-256 {sum_of(read('k/kept.sum'))}"))
         self.assertEqual([read(f"k/00002/{name}").decode() for name in ("command", "output", "notes", "status", "read.sum")],
@@ -76,6 +78,20 @@ r3,a.csv,i.hex,halt,90,0,,,0,,,34
         self.assertEqual(said_by(join, "s", None, "m")[2], "s is of older tools; to keep it, write the study anew")
         os.unlink("s/tables/00002.csv")
         self.assertEqual((said_by(join, "s", None, "m")[2], os.path.exists("m")), ("s/study.csv has 1 of 2 campaigns", False))
+
+    def test_plan_without_ends_of_lines_is_refused_at_once(self):
+        for text in ("run,a\r" * 100000, "run\nr1," + '"a"' * 200000, "run\nr1," + '"a' * 200001):
+            self.put("s/campaigns/00001.csv", text)
+            begin = time.monotonic()
+            self.assertEqual(note_of(rows_of, "s", "00001"), "campaign 00001: the table has other runs than the plan")
+            self.assertLess(time.monotonic() - begin, 5)
+
+    def test_study_with_another_program_is_refused(self):
+        self.put("own", b"\x7fELF own", 0o755)
+        with mock.patch.dict(os.environ, EGASIM_PROGRAM="own"):
+            self.assertEqual(said_by(join, "s")[2], "s/egasim isn't the program of these tools, and isn't run; if you trust it, say "
+                             "EGASIM_PROGRAM=s/egasim")
+        self.assertFalse(os.path.exists("s/study.csv"))
 
     def test_two_at_once_write_what_one_writes(self):
         # So many rows that most of them are on the disk when the second call begins, which is through before the first.
@@ -96,7 +112,7 @@ r3,a.csv,i.hex,halt,90,0,,,0,,,34
             write_joined("s", list(PLANNED))
         self.assertEqual(others[1], whole)
         self.assertEqual(read("s/study.csv"), whole)
-        self.assertEqual(sorted(os.listdir("s")), ["MANIFEST", "campaigns", "matrix.csv", "plan.toml", "study.csv", "tables"])
+        self.assertEqual(sorted(os.listdir("s")), ["MANIFEST", "campaigns", "egasim", "matrix.csv", "plan.toml", "study.csv", "tables"])
 
     def test_table_that_does_not_count_is_told(self):
         wrong = "its table isn't of this program and these inputs; once it is removed, it can be made again"

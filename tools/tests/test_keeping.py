@@ -88,6 +88,28 @@ class Keeping(InFolder):
         self.assertEqual(self.keep("--again", "k"), (2, "", "k/kept.sum lacks command\n"))
         self.assertEqual(self.keep("--again", "gone"), (2, "", "cannot read gone/kept.sum: No such file or directory\n"))
 
+    def again_with(self, **changed):
+        """Makes a folder again in which files were changed, and the checksums with them."""
+        for name, text in changed.items():
+            self.put(f"k/{name}", text)
+        names = [line.partition("  ")[2] for line in self.content("k/kept.sum").splitlines()]
+        self.put("k/kept.sum", "".join(f"{sum_of(read(f'k/{name}'))}  {name}\n" for name in names))
+        return self.keep("--again", "k")
+
+    def test_what_an_earlier_version_kept_differs_by_that_alone(self):
+        self.keep("k", "--", "egasim", "run", "c.toml")
+        status, told, _ = self.again_with(version="egasim 2.4.4\nprogram 00\n")
+        said = "k: egasim run c.toml: version and program alone are otherwise"
+        self.assertEqual((status, told.splitlines()[0], len(told.splitlines())), (1, said, 2))
+        status, told, _ = self.again_with(output="run c\n")
+        self.assertEqual((status, told.splitlines()[0], len(told.splitlines())), (1, "k: egasim run c.toml: otherwise", 3))
+
+    def test_what_is_no_command_of_the_program_is_not_run(self):
+        self.keep("k", "--", "egasim", "run", "c.toml")
+        for command in ("./evil run c.toml", "k/egasim run c.toml", "egasim", "", "'egasim run'"):
+            self.assertEqual(self.again_with(command=f"{command}\n"),
+                             (2, "", f"k/command has {command}, which is no command of egasim\n"))
+
     def test_each_call_of_a_tool_is_kept_and_each_difference_told(self):
         self.assertEqual(self.kept_by_tool("k", "r.csv"), f"k, whose kept.sum has the SHA-256 {sum_of(read('k/kept.sum'))}")
         self.assertEqual(sorted(os.listdir("k")), ["00001", "00002", "date", "kept.sum", "tool", "tool.sum", "version"])
@@ -116,6 +138,17 @@ class Keeping(InFolder):
         self.assertRaises(SystemExit, self.kept_by_tool, "k", "r.csv", "false")
         self.assertEqual((os.path.exists("k"), CALLS["kept"]), (False, None))
         self.kept_by_tool(None, "r.csv")
+
+    def test_a_folder_that_another_call_makes_meanwhile_stays(self):
+        with mock.patch.dict(os.environ, EGASIM_PROGRAM=shutil.which("echo")):
+            self.assertEqual(note_of(self.calls_beside_another), "k is there already")
+        self.assertEqual(sorted(os.listdir("k")), ["other"])
+        self.assertEqual([name for name in os.listdir() if name.startswith(".egasim-")], [])
+
+    def calls_beside_another(self):
+        with calls_kept("k"):
+            printed_by("table", "c.toml")
+            self.put("k/other")
 
     def test_a_program_that_changes_meanwhile_is_told(self):
         shutil.copy(shutil.which("echo"), "p")

@@ -93,7 +93,10 @@ class Forms(InFolder):
     def test_names_that_are_not_there(self):
         for content, channels, note in (
                 ("time,a\n1,2\n", ("time", "p"), "m.csv has no channel p in one line with the others; its names are time, a"),
-                ("a,b\n1,2\n", ("time", "p"), "m.csv has no channel time in one line with the others; no line has one"),
+                ("a,b\n1,2\n", ("time", "p"), "m.csv has no channel time in one line with the others; no line has one; line 1 has a, b"),
+                ("made by a, ok\n\nx;y;z\ns;rpm;%\n1,5;2;3\n", ("time", "p"),
+                 "m.csv has no channel time in one line with the others; no line has one; line 3 has x, y, z"),
+                ("1,2\n", ("time", "p"), "m.csv has no channel time in one line with the others; no line has one"),
                 ("", ("time", "p"), "m.csv has no channel time in one line with the others; no line has one"),
                 ("time,p\n1,2\n", (1, 2), "m.csv: a channel must be said by its name, so that the line of names is found"),
                 (",".join(["time", *map(str, range(30))]), ("time", "p"),

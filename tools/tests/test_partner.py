@@ -16,7 +16,7 @@ class Partner(InFolder):
         os.makedirs("top/tools")
         os.mkdir("temporary")
         shutil.copy(f"{TOOLS}/partner", "top/tools/partner")
-        self.put("top/release/egasim", '#!/bin/sh\necho "of the checkout: $*"\n', 0o755)
+        self.put("top/egasim", '#!/bin/sh\necho "of the checkout: $*${EGASIM_PROGRAM+ by $EGASIM_PROGRAM}"\n', 0o755)
         self.put("my/egasim", "#!/bin/sh\necho of my folder\n", 0o755)
         os.symlink("../top/tools", "my/tools")
         os.symlink("../top/tools/partner", "my/partner")
@@ -34,10 +34,10 @@ class Partner(InFolder):
         for name in ("my/egasim", "gone", "."):
             note = f"partner: {name}, which EGASIM_PROGRAM names, is no program (a script isn't one)\n"
             self.assertEqual(self.call("top/tools/partner", EGASIM_PROGRAM=name), (1, "", note))
-        self.assertEqual(self.call("top/tools/partner", EGASIM_PROGRAM=shutil.which("true")), (0, "", ""))
-        os.unlink("top/release/egasim")
-        self.assertEqual(self.call("top/tools/partner"),
-                         (1, "", f"partner: there is no program {os.getcwd()}/top/tools/../release/egasim that may be run\n"))
+        self.assertEqual(self.call("top/tools/partner", EGASIM_PROGRAM=shutil.which("true")),
+                         (0, f"of the checkout: couple c.toml a by {shutil.which('true')}\n", ""))
+        os.unlink("top/egasim")
+        self.assertEqual(self.call("top/tools/partner"), (1, "", "partner: there is no script egasim above the tools\n"))
 
     def test_what_a_killed_call_left_is_removed_by_the_next(self):
         ended = subprocess.Popen("true")

@@ -76,3 +76,16 @@ class Program(InFolder):
             self.assertEqual(note_of(printed_by, "bound"), "egasim bound: my.toml: answer 2")
             self.put("stand_in", "#!/bin/sh\nexit 3\n", 0o755)
             self.assertEqual(note_of(printed_by, "bound"), "egasim bound: status 3")
+
+    def test_name_that_is_not_utf8_is_told(self):
+        self.put("stand_in", "#!/bin/sh\necho $0 $1\n", 0o755)
+        odd = os.fsdecode(b"odd\xff")
+        os.mkdir(odd)
+        shutil.copy("stand_in", f"{odd}/stand_in")
+        with mock.patch.object(module, "program", lambda: f"{self.here}/{odd}/stand_in"):
+            self.assertEqual(note_of(printed_by, "table", f"{odd}.toml"), r"odd\xff.toml isn't UTF-8, and the program takes no such name")
+            self.assertEqual(module.run(["bound"]).stdout, os.fsencode(f"{self.here}/{odd}/stand_in bound\n"))
+
+    def test_program_has_its_own_name_wherever_it_is(self):
+        with mock.patch.object(module, "program", lambda: shutil.which("sh")):
+            self.assertEqual(module.run(["-c", "cat /proc/$$/cmdline"]).stdout, b"egasim\0-c\0cat /proc/$$/cmdline\0")

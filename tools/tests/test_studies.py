@@ -11,7 +11,8 @@ from lib.campaigns import run_text
 from lib.files import read, sum_of
 from lib.keeping import sums_of
 from lib.plans import PARAMETERS
-from lib.studies import (Folder, called, campaigns_of, cell, copied, line_of, name_cell, renamed, runs_of, ticks_of_drives,
+from lib.program import program
+from lib.studies import (Folder, called, campaigns_of, cell, copied, line_of, name_cell, program_of, runs_of, ticks_of_drives,
                          words_of, write_study)
 from in_folder import InFolder
 from notes import note_of
@@ -159,15 +160,6 @@ class Studies(InFolder):
         self.assertEqual(results, [(8, 1, 0)] * 4)
         self.assertEqual(sorted(os.listdir()), ["=1+1.csv", "b.csv", "i.hex", "p.toml", "program", "s"])
 
-    def test_folder_gets_its_name_once(self):
-        for name in ("a", "b", "full/inner", "empty"):
-            os.makedirs(name)
-        self.assertEqual((renamed("a", "c"), renamed("b", "c"), renamed("b", "full"), renamed("b", "empty")),
-                         (True, False, False, False))
-        with mock.patch.object(studies.os.path, "lexists", return_value=False):  # another call comes in between
-            self.assertFalse(renamed("b", "full"))
-        self.assertRaises(FileNotFoundError, renamed, "gone", "d")
-
     def test_input_that_is_refused_is_told_by_its_own_name(self):
         self.play(refused=["inputs/drive-2.csv"])
         self.assertEqual(note_of(write_study, "p.toml", "s"), "an input is refused: b.csv: record 3")
@@ -185,12 +177,30 @@ class Studies(InFolder):
         self.assertEqual(ticks, {"a": 3, "b": 3})
         self.assertEqual(tried, [("d1", "i1"), ("d2", "i1"), ("d1", "i1"), ("d1", "i2")])
 
-    def test_program_of_the_folder_is_called_there_by_the_calibration_of_the_study(self):
-        self.put("f/egasim", '#!/bin/sh\necho "$@"; pwd; cat\n', 0o755)
+    def test_program_is_called_in_the_folder_by_the_calibration_of_the_study(self):
+        self.put("p", '#!/bin/sh\necho "$@"; pwd; cat\n', 0o755)
+        os.mkdir("f")
         here = os.path.realpath("f").encode()
-        self.assertEqual(called("f", "table", "a b").stdout, b"table a b\n" + here + b"\n")
-        self.put("f/inputs/calibration.toml")
-        self.assertEqual(called("f", "limits").stdout, b"limits --cal inputs/calibration.toml\n" + here + b"\n")
+        with mock.patch("lib.program.program", lambda: os.path.abspath("p")):
+            self.assertEqual(called("f", "table", "a b").stdout, b"table a b\n" + here + b"\n")
+            self.put("f/inputs/calibration.toml")
+            self.assertEqual(called("f", "limits").stdout, b"limits --cal inputs/calibration.toml\n" + here + b"\n")
+
+    def test_another_program_of_a_folder_is_run_only_where_it_is_named(self):
+        self.put("own", b"\x7fELF own", 0o755)
+        self.put("f/egasim", b"\x7fELF own", 0o755)
+        self.enterContext(mock.patch.object(studies, "program", program))
+        with mock.patch.dict(os.environ, EGASIM_PROGRAM="own"):
+            self.assertEqual(program_of("f"), os.path.realpath("own"))
+            for content in (b"\x7fELF other", b"#!/bin/sh\n"):
+                self.put("f/egasim", content, 0o755)
+                self.assertEqual(note_of(program_of, "f"), "f/egasim isn't the program of these tools, and isn't run; if you trust it, "
+                                 "say EGASIM_PROGRAM=f/egasim")
+            os.unlink("f/egasim")
+            self.assertRegex(note_of(program_of, "f"), "^f/egasim isn't the program of these tools")
+        self.put("f/egasim", b"\x7fELF other", 0o755)
+        with mock.patch.dict(os.environ, EGASIM_PROGRAM="f/egasim"):
+            self.assertEqual(program_of("f"), os.path.realpath("f/egasim"))
 
     def test_ticks_are_those_of_the_record(self):
         os.mkdir("f")

@@ -18,6 +18,13 @@ class Reading(unittest.TestCase):
         self.assertEqual(note_of(toml_of, "gone.toml"), "cannot read gone.toml: No such file or directory")
         self.assertRegex(note_of(toml_in, "a", "a = "), "^a: not TOML: ")
 
+    def test_text_of_several_lines_that_would_lose_a_carriage_return_is_refused(self):
+        for text in ('trace = """a\r\nb.csv"""', "trace = '''a\r\nb.csv'''", 'a = "\'"\r\n\r\nb = """\\"\r\n"""', 'a = """x\r\n'):
+            self.assertEqual(note_of(toml_in, "a", text), "a: a text of several lines has CR LF, which the program keeps and Python's "
+                             "tomllib doesn't: write it in one line")
+        held = {"a": "\r\n", "b": "c\nd", "e": "'"}
+        self.assertEqual(toml_in("a", 'a = "\\r\\n" # """\r\nb = """c\nd"""\r\ne = "\'"\r\n'), held)
+
     def test_numbers_have_64_bits(self):
         for number in (-2**63, 2**63 - 1):
             self.assertEqual(toml_in("a", f"a = [[{number}]]"), {"a": [[number]]})
