@@ -9,7 +9,7 @@ import unittest
 
 from lib.files import TOP, read, text_of
 
-EXAMPLES = os.path.join(TOP, "examples")
+EXAMPLES = os.path.join(TOP, "examples", "own_engine")
 built_by_compiler = unittest.skipUnless(shutil.which("cc"), "there is no compiler cc")
 
 

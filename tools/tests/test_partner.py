@@ -8,18 +8,18 @@ from lib.files import TOOLS
 from in_folder import InFolder
 
 
-class Couple(InFolder):
+class Partner(InFolder):
     """A checkout in top/, and a folder my/ with a link to its tools and another program."""
 
     def setUp(self):
         super().setUp()
         os.makedirs("top/tools")
         os.mkdir("temporary")
-        shutil.copy(f"{TOOLS}/couple", "top/tools/couple")
-        self.put("top/egasim", '#!/bin/sh\necho "of the checkout: $*"\n', 0o755)
+        shutil.copy(f"{TOOLS}/partner", "top/tools/partner")
+        self.put("top/release/egasim", '#!/bin/sh\necho "of the checkout: $*"\n', 0o755)
         self.put("my/egasim", "#!/bin/sh\necho of my folder\n", 0o755)
         os.symlink("../top/tools", "my/tools")
-        os.symlink("../top/tools/couple", "my/couple")
+        os.symlink("../top/tools/partner", "my/partner")
 
     def call(self, tool, **variables):
         variables = {"PATH": os.environ["PATH"], "TMPDIR": "temporary", **variables}
@@ -27,16 +27,17 @@ class Couple(InFolder):
         return done.returncode, done.stdout, done.stderr
 
     def test_tools_by_a_link_start_the_program_of_their_checkout(self):
-        for tool in ("top/tools/couple", "my/tools/couple", "my/couple"):
+        for tool in ("top/tools/partner", "my/tools/partner", "my/partner"):
             self.assertEqual(self.call(tool), (0, "of the checkout: couple c.toml a\n", ""))
 
     def test_what_is_named_and_is_no_program_is_refused(self):
         for name in ("my/egasim", "gone", "."):
-            note = f"couple: {name}, which EGASIM_PROGRAM names, is no program (a script isn't one)\n"
-            self.assertEqual(self.call("top/tools/couple", EGASIM_PROGRAM=name), (1, "", note))
-        self.assertEqual(self.call("top/tools/couple", EGASIM_PROGRAM=shutil.which("true")), (0, "", ""))
-        os.unlink("top/egasim")
-        self.assertEqual(self.call("top/tools/couple"), (1, "", "couple: there is no program egasim above the tools\n"))
+            note = f"partner: {name}, which EGASIM_PROGRAM names, is no program (a script isn't one)\n"
+            self.assertEqual(self.call("top/tools/partner", EGASIM_PROGRAM=name), (1, "", note))
+        self.assertEqual(self.call("top/tools/partner", EGASIM_PROGRAM=shutil.which("true")), (0, "", ""))
+        os.unlink("top/release/egasim")
+        self.assertEqual(self.call("top/tools/partner"),
+                         (1, "", f"partner: there is no program {os.getcwd()}/top/tools/../release/egasim that may be run\n"))
 
     def test_what_a_killed_call_left_is_removed_by_the_next(self):
         ended = subprocess.Popen("true")
@@ -46,5 +47,5 @@ class Couple(InFolder):
             os.mkdir(f"temporary/{name}")
             os.mkfifo(f"temporary/{name}/record")
         self.put(f"temporary/egasim-couple.{ended.pid}.ghijkl")
-        self.call("top/tools/couple")
+        self.call("top/tools/partner")
         self.assertEqual(sorted(os.listdir("temporary")), sorted([*stays, f"egasim-couple.{ended.pid}.ghijkl"]))
