@@ -13,10 +13,10 @@ place=$work/place/bin
 (cd "$work/place" && echo bin/* share/man/man1/* | fold -s -w 110)
 grep -c . "$work/place/share/man/man1/egasim.1" | awk '$1 > 1000 { print "a manual page" }'
 grep -A 1 '^.SH NAME' "$work/place/share/man/man1/egasim-partner.1"
-complete() { bash -c '. "$0"; COMP_WORDS=("$@"); COMP_CWORD=$(($# - 1)); _egasim; echo "${COMPREPLY[@]}"' "$work/place/share/bash-completion/completions/egasim" "$@"; }
-complete egasim run --c
-complete egasim help p
-for name in $(complete egasim help ''); do "$place/egasim" help "$name" >/dev/null || echo "$name isn't known"; done
+completed() { bash -c '. "$0"; COMP_WORDS=("$@"); COMP_CWORD=$(($# - 1)); _egasim; echo "${COMPREPLY[@]}"' "$work/place/share/bash-completion/completions/egasim" "$@"; }
+completed egasim run --c
+completed egasim help p
+for name in $(completed egasim help ''); do "$place/egasim" help "$name" >/dev/null || echo "$name isn't known"; done
 touch "$place/mine"
 "$work/place/lib/egasim/dist/install" "$work/other" | sed "s|$work|WORK|g; s/[0-9]* files/N files/"
 diff -r -x FILES "$work/place" "$work/other" | sed "s|$work|WORK|g"

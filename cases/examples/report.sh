@@ -57,6 +57,27 @@ for words in '' --sweep-sound; do
   sed -n '/"verdict"/,/<\/ul>/{s/<[^>]*>//g;/./p}; /^<h3>.*every.*ticks\?</p; /^<p>Not swept/p' page.html
 done
 
+# Sound drives that don't show whether they are cut; a class that switches the stages off itself, and an onset that may show
+# a reaction; pairs that find nothing, or too late; the room of a recording.
+trace() { echo pedal,speed,raise,reset && for reset; do echo "0,800,0,$reset"; done; }
+run() { printf '[[run]]\nname = "%s"\ntrace = "%s"\nimage = "examples/level_1/%s.hex"\n%s\n' "$@"; }
+trace 0 0 0 0 0 0 0 >short.csv && trace 0 0 0 0 0 0 1 0 >reset.csv && trace 0 >one.csv && trace $(printf '0 %.0s' $(seq 60)) >whole.csv
+{ run short short.csv full && run reset reset.csv full && run one one.csv follow && run zeros whole.csv full 'slices = [[0, 0, 0, 0, 0, 0, 0, 0, 0]]'
+  run last whole.csv idle 'faults = [{ class = "lapse", onset = 50, after = [9] }]'
+  run opens whole.csv full 'faults = [{ class = "path-open", onset = 0, path = 1 }]'; } >little.toml
+sounds='--sound short --sound reset --sound one --sound zeros --sound last'
+{ run stuck whole.csv full 'faults = [{ class = "path1-closed", onset = 0 }]' && run late whole.csv full 'faults = [{ class = "flip", onset = 20, word = 3, mask = 1 }]'; } >flips.toml
+cat little.toml flips.toml >all.toml
+{ run at whole.csv full 'faults = [{ class = "flip", onset = 9, word = 3, mask = 1 }]' && run sound whole.csv idle; } >>flips.toml
+said() { verdict "$@" --tolerant 39 --falls 0 --room 21 | grep "evidence\|at least one\|don't show\|another\|A pair\|Pairs\|Room"; }
+said little.toml --cal full.toml $sounds
+said all.toml --cal full.toml
+said flips.toml --cal full.toml --sound sound --recording examples/measurement/measured.csv
+for limits in 's/^limit = .*/limit = 77/' 's/^\(pedal\|speed\) = .*/\1 = 10000/'; do
+  sed "/^.pairs/,/^.plant/{$limits}" full.toml >pairs.toml && ./egasim questions pairs.toml >answered
+  said little.toml --cal pairs.toml
+done
+
 # How long it takes until faults are found, also after a reset, beside what `coverage` says of them.
 { ./egasim study faults examples/first_run/sweep.toml late halt,skip,timing,bus,script 3 && ./egasim study faults examples/power_cycles/cycles.toml starts flip,halt,path1-closed 50; } >found.toml
 ./egasim report found.toml --tick 10ms >page.html

@@ -44,6 +44,12 @@ def runs_of_campaign(campaign):
     return {run.get("name"): run for run in runs}
 
 
+def files_of_campaign(campaign):
+    """A campaign file, and the traces and images that its runs name, each once."""
+    named = [run.get(key) for run in runs_of_campaign(campaign).values() for key in ("trace", "image")]
+    return list(dict.fromkeys([campaign, *(name for name in named if isinstance(name, str))]))
+
+
 def run_of(campaign, name):
     """The run of this name in a campaign file."""
     return runs_of_campaign(campaign).get(name) or fail(f"{campaign} has no run {name}")

@@ -10,25 +10,28 @@ import io
 import itertools
 import os
 import re
+import subprocess
 import sys
 from concurrent.futures import ThreadPoolExecutor
 from dataclasses import dataclass, field
 
 from lib.answering import with_answers
 from lib.calibration import WATCHES
+from lib.campaigns import runs_of_campaign
 from lib.files import read
 from lib.placing import with_ramp
 from lib.program import note_in, run
 from lib.putting import parsed, with_numbers
+from lib.records import drive_of, record_of
+from lib.showing import Shown, recording_shown, where
 from lib.tool import TOOL, as_noted, fail
-from lib.verdicts import WITHOUT_LAPSES, held_of, idle_by, is_on_first_ramp
+from lib.verdicts import WITHOUT_LAPSES, held_of, is_on_first_ramp
 
 OPEN = 10000  # a limit that is never reached, and the greatest that a file may have
 PAIRS = [watch for watch, table in WATCHES.items() if table == "pairs"]
 LEAST_PERIOD, MOST_PERIOD = 2, 100
 TIMES = ("period", "first", "last", "send", "limit")  # keys of the table `answers`
 NO_BOUND = f"under lapses no bound holds with a ramp ({WITHOUT_LAPSES})"
-REPLAYED = re.compile(r"(\w+) (?:none|at (\d+)); greatest (\d+) of (\d+)")
 
 
 @dataclass
@@ -49,6 +52,7 @@ class Row:
     limits: dict = field(default_factory=dict)  # what `limits` tells by this row's calibration
     hindrance: str = ""  # why no times fit
     far: tuple = ()  # by how much they don't; the least is the nearest
+    within: str = ""  # the drive that ends within an excess, and where, so that its greatest weight isn't known
 
     def said(self):
         return f"threshold {self.threshold}{f', fall {self.fall}' if self.fall else ''}"
@@ -66,10 +70,10 @@ class Search:
 
     def __init__(self, asked, room):
         self.asked, self.room, self.name, self.is_ended = asked, room, asked.cal, False
-        self.limits_by(asked.cal)  # so that whatever is wrong with the file is told by its name
+        self.test = int(self.limits_by(asked.cal)["test"])  # so that whatever is wrong with the file is told by its name
         self.text = read(asked.cal).decode()
         self.start, self.numbers = parsed(asked.cal, self.text), itertools.count(1)
-        self.drives = asked.drives
+        self.drives, self.traces, self.beyond = asked.drives, {}, {}
         if self.start["permit"].get("fall") == 0:
             fail(f"{asked.cal}: by permit.fall = 0 the permitted torque never falls: the opposite of no ramp, by which it falls at once "
                  "(version = 2, without that key)")
@@ -105,28 +109,55 @@ class Search:
                 if row["class"] not in ("none", "lapse"):
                     fail(f"{self.drives}: {row['run']} has a fault; drives that are to be let through have none, or a lapse")
                 told[row["run"]] = {watch: int(row[watch]) for watch in [*PAIRS, "torque"]}
-        for name in self.asked.recordings:
-            lines = self.call("replay", "--cal", path, given=name).splitlines()
-            told[name] = {match[1]: int(match[3]) for match in map(REPLAYED.match, lines) if match}
+        told |= {name: {watch: weight for watch, (weight, _) in shown.weights.items()} for name, shown in self.recordings_by(path).items()}
         return told
 
-    def rows_by(self, path):
-        """The rows of `table` by a calibration. A run that shows nothing of its drive is told, and ends the search."""
+    def recordings_by(self, path):
+        return {name: recording_shown(self.call("replay", "--cal", path, given=name)) for name in self.asked.recordings}
+
+    def shown_by(self, path):
+        """What each run and each recording shows by a calibration. One that shows nothing of its drive ends the search."""
         rows = list(csv.DictReader(io.StringIO(self.call("table", "--cal", path, self.drives)))) if self.drives else []
-        for row in rows:
-            why = idle_by(row)
-            if why and not row["first"]:
-                fail(f"{self.drives}: {row['run']} is a run {why}, and shows nothing of its drive")
-        return rows
+        runs = runs_of_campaign(self.drives) if rows else {}
+        told = {row["run"]: Shown(row, {}, *self.drive(runs[row["run"]]["trace"]), run=runs[row["run"]], test=self.test) for row in rows}
+        told |= self.recordings_by(path)
+        for name, shown in told.items():
+            why = shown.idle() or shown.unseen()
+            if why and not shown.row["first"]:
+                fail(f"{f'{self.drives}: ' if name in runs else ''}{name} shows nothing of its drive: {why}")
+        return told
+
+    def drive(self, trace):
+        """How many ticks a trace has, and those at which it resets the unit; each trace is read once."""
+        self.traces[trace] = self.traces.get(trace) or drive_of(trace)
+        return self.traces[trace]
 
     def cuts_by(self, path):
         """What is found first in each run and in each recording: {name: (watch, tick) or None}."""
-        told = {row["run"]: (row["first"], int(row["first_at"])) if row["first"] else None for row in self.rows_by(path)}
-        for name in self.asked.recordings:
-            lines = self.call("replay", "--cal", path, given=name).splitlines()
-            found = [(match[1], int(match[2])) for match in map(REPLAYED.match, lines) if match and match[2]]
-            told[name] = min(found, key=lambda one: one[1], default=None)
-        return told
+        return {name: (shown.row["first"], int(shown.row["first_at"])) if shown.row["first"] else None
+                for name, shown in self.shown_by(path).items()}
+
+    def beyond_by(self, path, name, fall):
+        """By how much the torque lies above what is permitted at the ticks of a run, or of a recording, by limits that are never
+        reached; each is asked for once, since a threshold alone changes nothing of that."""
+        if (name, fall) not in self.beyond:
+            if name in self.asked.recordings:
+                rows = csv.DictReader(io.StringIO(self.call("signals", "--cal", path, given=name)))
+                self.beyond[name, fall] = [int(row["actual"]) - int(row["permitted"]) for row in rows]
+            else:
+                record = record_of(name, io.StringIO(self.call("record", "--cal", path, self.drives, name)))
+                self.beyond[name, fall] = [torque - limit for torque, limit in zip(record["torque"], record["limit"])]
+        return self.beyond[name, fall]
+
+    def within_of(self, path, row):
+        """The first drive that ends within an excess by a row's threshold, and where; empty if none does."""
+        for name, shown in self.shown_by(path).items():
+            if shown.row["first"]:
+                fail(f"{name}: {shown.row['first']} finds something at {shown.row['first_at']} by the {row.said()}, whatever the limits are")
+            shown.excess = lambda name=name: where(beyond > row.threshold for beyond in self.beyond_by(path, name, row.fall))
+            if shown.within() is not None:
+                return f"{name} ends within an excess, at {shown.within()}"
+        return ""
 
     # A threshold
 
@@ -148,9 +179,7 @@ class Search:
         row = Row(threshold, fall)
         path = self.put(self.text_with(row, OPEN, OPEN))
         row.held, row.weights = held_of(self.limits_by(path), self.asked.said), self.weights_by(path)
-        for name, found in self.cuts_by(path).items():
-            if found:
-                fail(f"{name}: {found[0]} finds something at {found[1]} by the {row.said()}, whatever the limits are")
+        row.within = self.within_of(path, row)
         row.weight = max(weights["torque"] for weights in row.weights.values())
         row.pairs = max(weights[pair] for weights in row.weights.values() for pair in PAIRS)
         row.limit = self.least_of(row.weight)
@@ -181,7 +210,7 @@ class Search:
             limits = self.limits_by(self.put(self.text_with(row, row.limit, row.pairs_limit, times)))
             hindrance, far = self.hindrance_of(row, limits, times)
             tries.append((far, hindrance, limits, times))
-            if hindrance in ("", NO_BOUND):
+            if hindrance in ("", NO_BOUND, row.within):
                 break
         row.far, row.hindrance, row.limits, row.times = min(tries, key=lambda one: one[0])
 
@@ -199,6 +228,8 @@ class Search:
         """Which number keeps these times from fitting, or nothing; and by how much, so that fewer are nearer."""
         left, spacing, asks_lapses = self.asked.left, self.asked.spacing, WITHOUT_LAPSES not in self.asked.said
         lasts = int(limits["stretch"]) + row.held
+        if row.within:
+            return row.within, (4, 0)
         if lasts > left:
             return f"{'with the ramp' if row.held else 'stretch'} {lasts} is above {left}", (3, lasts - left)
         if row.fall and asks_lapses:

@@ -5,19 +5,16 @@ import csv
 import fnmatch
 import functools
 import io
-import re
-from dataclasses import dataclass, field
+from dataclasses import dataclass
 
 from lib.calibration import threshold_of, weight_limits_of
-from lib.campaigns import runs_of_campaign
+from lib.campaigns import files_of_campaign, runs_of_campaign
 from lib.program import printed_by
 from lib.records import drive_of, record_of
 from lib.runs import excess_of, unsettled
+from lib.showing import Shown, cut_said, recording_shown, where
 from lib.tool import fail
 from lib.units import beside
-from lib.verdicts import cut_by, idle_by
-
-FOUND = re.compile(r"(pedal|plate|load|speed|torque) (?:none|at (\d+)); greatest (\d+) of (\d+)")
 
 
 @dataclass(frozen=True)
@@ -29,50 +26,13 @@ class Verdict:
     words: str
 
 
-@dataclass
-class Shown:
-    """What a run or a recording shows: its row of `table`, what each watch weighs, of which limit; the ticks of its drive,
-    those at which that resets the unit, those with an excess, and why it doesn't show how long its longest excess lasts."""
-    row: dict
-    weights: dict = field(default_factory=dict)
-    ticks: int = 0
-    resets: tuple = ()
-    excess: object = list  # is called only where the row leaves it open whether an excess stands at an end
-    hidden: str = ""
-
-    def is_late(self):
-        """Whether the fault comes when the stages are off for good, so that the run shows nothing of it."""
-        return bool(self.row["onset"] and self.row["cut"]
-                    and max(int(self.row["cut_at"]), int(self.row["last_on"] or -1)) < int(self.row["onset"]))
-
-    def too_soon(self):
-        """Why it ends too soon to show what comes of its last excess; None if it doesn't."""
-        said, last_on = "it ends too soon to show that", int(self.row["last_on"] or -1)
-        if self.row["settled"] == "0":
-            return said
-        ends = [tick - 1 for tick in (*self.resets, self.ticks) if 0 < tick <= last_on + 1]
-        excess = self.excess() if ends and self.row["stretch"] != "0" else []
-        within = next((tick for tick in ends if excess[tick:tick + 1] == [True]), None)
-        where = "its last tick" if within == self.ticks - 1 else "right before a reset"
-        return None if within is None else f"{said}: at {within}, {where}, there is an excess"
-
-    def is_in_a_test(self):
-        """Whether what the table has for the first cut is a mirror in a start-up test, which cuts no drive."""
-        behind = int(self.row["cut_at"] or 0) + 1
-        return (self.row["cut"] == "mirror" and self.row["off_at"] != str(behind)
-                and behind < self.ticks and behind not in self.resets)
-
-    def cut_said(self):
-        """What cuts a run, whatever limits its pedal; None if nothing does."""
-        return cut_said({**self.row, "first": "", **({"cut": ""} if self.is_in_a_test() else {})})
-
-
 def verdicts(expected, is_strict):
     """The verdict on each line of a file of expectations, and on each run that no line names."""
     calibration = ["--cal", expected.calibration] if expected.calibration else []
-    yield from limit_verdicts(expected, calibration)
+    limits = functools.cache(lambda: dict(line.split() for line in printed_by("limits", *calibration).splitlines()))
+    yield from limit_verdicts(expected, limits)
     if expected.campaign:
-        yield from run_verdicts(expected, calibration, is_strict)
+        yield from run_verdicts(expected, shown_runs(expected, calibration, limits), is_strict)
     for entry in expected.recordings:
         for name in entry.names:
             excess = functools.cache(lambda name=name: excess_in_signals(printed_by("signals", *calibration, readings=name)))
@@ -82,25 +42,23 @@ def verdicts(expected, is_strict):
 
 def inputs_of(expected):
     """The files that verdicts on these expectations are drawn from."""
-    runs = runs_of_campaign(expected.campaign).values() if expected.campaign else []
-    named = [expected.name, expected.calibration, expected.campaign, *(run[key] for run in runs for key in ("trace", "image"))]
+    runs = files_of_campaign(expected.campaign) if expected.campaign else []
     units = beside(expected.calibration) if expected.calibration else None
-    return [name for name in [*named, units, *(name for entry in expected.recordings for name in entry.names)] if name]
+    recordings = (name for entry in expected.recordings for name in entry.names)
+    return [name for name in [expected.name, expected.calibration, *runs, units, *recordings] if name]
 
 
-def limit_verdicts(expected, calibration):
+def limit_verdicts(expected, limits):
     """Whether lines of `limits` are as great, or as small, as they have to be."""
-    limits = dict(line.split() for line in printed_by("limits", *calibration).splitlines()) if expected.limits else {}
     for check in expected.limits:
         line, bound, number = check.value
-        told = limits[line]
+        told = limits()[line]
         is_so = told != "none" and (int(told) <= number if bound == "most" else int(told) >= number)
         yield Verdict("limits", check.name(), is_so, f"{line} is {expected.units.cell(line, told)}")
 
 
-def run_verdicts(expected, calibration, is_strict):
+def run_verdicts(expected, runs, is_strict):
     """Whether each run is as the lines that name it say. A name that is that of no run, and a run of no line, are told."""
-    runs = shown_runs(expected, calibration)
     named = set()
     for entry in expected.runs:
         for name in entry.names:
@@ -115,60 +73,45 @@ def run_verdicts(expected, calibration, is_strict):
             yield Verdict(run, "is named", False if is_strict else None, "no line names it")
 
 
-def shown_runs(expected, calibration):
+def shown_runs(expected, calibration, limits):
     """What each run of the campaign shows, by its name."""
     rows = table_of("table", *calibration, expected.campaign)
     needs_room = any(check.key == "room" for entry in expected.runs for check in entry.checks)
     margins = {row["run"]: row for row in table_of("margins", *calibration, expected.campaign)} if needs_room else {}
-    limits = weight_limits_of(expected.calibration) if needs_room else {}
+    most = weight_limits_of(expected.calibration) if needs_room else {}
     runs, drives, shown = runs_of_campaign(expected.campaign), {}, {}
     if list(runs) != [row["run"] for row in rows] or needs_room and list(margins) != list(runs):
         fail(f"{expected.campaign} changed meanwhile")
     for row in rows:
         name, trace = row["run"], runs[row["run"]]["trace"]
         drives[trace] = drives.get(trace) or drive_of(trace)
-        weights = {watch: (int(margins[name][watch]), limit) for watch, limit in limits.items()}
+        weights = {watch: (int(margins[name][watch]), limit) for watch, limit in most.items()}
         excess = functools.cache(lambda name=name: excess_in_run(expected, calibration, name))
-        shown[name] = Shown(row, weights, *drives[trace], excess)
+        test = int(limits()["test"]) if drives[trace][1] else 0
+        shown[name] = Shown(row, weights, *drives[trace], excess, run=runs[name], test=test)
     return shown
 
 
 def excess_in_run(expected, calibration, name):
-    """Whether each tick of a run has a true excess."""
+    """The ticks of a run with a true excess."""
     record = record_of(name, io.StringIO(printed_by("record", *calibration, expected.campaign, name)))
-    return excess_of(record, threshold_of(expected.calibration))
+    return where(excess_of(record, threshold_of(expected.calibration)))
 
 
 def excess_in_signals(text):
-    """Whether each tick of a recording has an excess."""
-    return [row["excess"] == "1" for row in csv.DictReader(io.StringIO(text))]
+    """The ticks of a recording with an excess."""
+    return where(row["excess"] == "1" for row in csv.DictReader(io.StringIO(text)))
 
 
 def table_of(*words):
     return list(csv.DictReader(io.StringIO(printed_by(*words))))
 
 
-def recording_shown(text, excess=list):
-    """What `replay` tells of a recording, in columns of `table`. In the unit the stages would go off a tick after the trip."""
-    lines = text.splitlines()
-    ticks = int(lines[0].split()[1])
-    matches = [FOUND.fullmatch(line) for line in lines[1:6]]
-    found = sorted((int(match[2]), place, match[1]) for place, match in enumerate(matches) if match[2])
-    trip = lines[6].split()[-1]
-    cut = next((watch for tick, _, watch in found if watch != "pedal" and str(tick) == trip), "")
-    row = dict.fromkeys(("acted", "onset", "first", "first_at", "cut", "cut_at", "off_at", "confirmed", "settled", "trap"), "")
-    row |= {"class": "none", "last_on": str(ticks - 1), "stretch": lines[7].split()[1]}
-    row |= {"cut": cut, "cut_at": trip, "off_at": str(int(trip) + 1)} if cut else {}
-    row |= {"first": found[0][2], "first_at": str(found[0][0])} if found else {}
-    weights = {match[1]: (int(match[3]), int(match[4])) for match in matches}
-    return Shown(row, weights, ticks, (), excess, f"{cut} trips at {trip}, and from there on a replay tells no excess" if cut else "")
-
-
 def verdict(subject, check, shown, units):
     """Whether a run or a recording is as it is expected to be."""
-    if shown.row["acted"] == "0":
-        return Verdict(subject, check.name(), False, "its fault never acts, so nothing is shown of it")
-    return Verdict(subject, check.name(), *JUDGES[check.key](shown, check.value, units))
+    unseen = shown.unseen()
+    is_so, words = (False, f"{unseen}, so nothing is shown of it") if unseen else JUDGES[check.key](shown, check.value, units)
+    return Verdict(subject, check.name(), is_so, words)
 
 
 def lasts(units, ticks):
@@ -186,15 +129,9 @@ def sound(shown, _, __):
 
 
 def not_driven(shown, stops=True):
-    """Why a run shows nothing of a drive, if it doesn't."""
-    why = idle_by(shown.row if stops else {**shown.row, "trap": ""})
-    return f"it is a run {why}, and shows nothing" if why else None
-
-
-def cut_said(row):
-    """What cuts a run, or limits its pedal."""
-    why = cut_by(row)
-    return f"it is {'cut ' if row['cut'] else ''}{why}" if why else None
+    """Why a run or a recording shows nothing of a drive, if it doesn't."""
+    why = shown.idle(stops)
+    return f"it shows nothing: {why}" if why else None
 
 
 def room(shown, wanted, _):
@@ -216,9 +153,9 @@ def cut(shown, allowed, _):
     watch, tick = row[name], row[f"{name}_at"]
     if not watch:
         return False, f"it is off at {row['off_at']}, and no watch cuts it" if row["off_at"] else "it isn't cut"
-    if shown.is_late():
+    if shown.is_after_the_cut():
         return False, f"its fault comes at {row['onset']}, after the cut by {watch} at {tick}"
-    if shown.is_in_a_test():
+    if shown.mirrors_in_test():
         return False, f"it isn't shown: mirror finds something in a start-up test, at {tick}, and hides what comes later"
     if not row["off_at"]:
         return False, f"{watch} finds something at {tick}, and the stages don't go off"
@@ -229,8 +166,10 @@ def after_excess(shown, most, units):
     why = unsettled(shown.row)
     if not why and shown.is_late():
         why = "the fault comes after the cut"
-    if not why and shown.row["class"] == "lapse" and max(shown.resets, default=0):
-        why = "of lapses in several power cycles the table doesn't show it"
+    if not why and max(shown.resets, default=0):
+        why = ("of lapses in several power cycles the table doesn't show it" if shown.row["class"] == "lapse" else
+               "of several power cycles the table doesn't show whether the fault, after the first excess, came before a cut"
+               if int(shown.row["onset"] or 0) > int(shown.row["confirmed"]) else None)
     if why:
         return False, f"it isn't shown: {why}"
     reaction, confirmed = int(shown.row["reaction"]), shown.row["confirmed"]
@@ -242,7 +181,8 @@ def after_fault(shown, most, units):
     later = next((reset for reset in shown.resets if reset > onset), None)
     why = ("there is no fault" if shown.row["class"] == "none" else
            f"a reset at {later} begins another power cycle after the fault" if later is not None else
-           "the stages are on at the end" if off == shown.ticks else "the fault comes after the cut" if shown.is_late() else None)
+           "the stages are on at the end" if off == shown.ticks else "the fault comes after the cut" if shown.is_late() else
+           "a start-up test is running at its last tick" if shown.is_in_test(shown.ticks - 1) else None)
     if why:
         return False, f"it isn't shown: {why}"
     return off - onset <= most, (f"the stages are off for good {lasts(units, off - onset)} after the fault" if off >= onset else

@@ -12,9 +12,12 @@ from lib.calibration import calibration_of, has_ramp, period_of, threshold_of, w
 from lib.covering import cover_of, missing
 from lib.detecting import spans_of, taken_by_class
 from lib.files import TOOLS, TOP, read, sum_of, text_in
+from lib.inputs import Inputs
 from lib.program import asked_version, printed_by, program, version_lines
 from lib.questions import answer_of
 from lib.records import drive_of, record_of
+from lib.runs import excess_of
+from lib.showing import Shown, recording_shown, where
 from lib.toml import toml_in
 from lib.tool import fail
 from lib.units import beside, units_of
@@ -39,13 +42,14 @@ class Swept:
         self.reactions = {match[1]: None if match[4] == "none" else int(match[4]) for match in matches}
 
 
-class Played:
+class Played(Inputs):
     """All that the program prints of a campaign. Of whatever is refused its note is told, and there is no report."""
 
     def __init__(self, campaign, calibration, sound, sweeps_sound, tick=None):
+        super().__init__()
         self.campaign, self.calibration, self.units = campaign, calibration, units_of(tick, [calibration])
         called = program()  # which builds it, if need be, before --version looks for it
-        asked, self.commands, self.sums = asked_version(), [], {}
+        asked, self.commands = asked_version(), []
         self.date = datetime.datetime.now(datetime.timezone.utc).strftime("%Y-%m-%d %H:%M UTC")
         units = beside(calibration) if calibration else None
         for name in [called, *(name for name in (calibration, units, campaign) if name)]:
@@ -65,7 +69,7 @@ class Played:
         self.threshold = threshold_of(calibration)
         self.period = period_of(calibration)
         self.has_ramp = has_ramp(calibration)
-        self.weights = weight_limits_of(calibration)
+        self.weights, self.pairs = weight_limits_of(calibration), calibration_of(calibration)["pairs"]
         self.records = {row["run"]: self.record(row["run"]) for row in self.rows}
         self.taken = self.taken_until_found()
         self.blind = self.blind_for()
@@ -73,6 +77,7 @@ class Played:
         self.not_asked = [runs[0] for runs, is_left_out in groups if is_left_out]
         swept = [runs for runs, is_left_out in groups if not is_left_out]
         self.sweeps, self.left = [self.sweep(runs) for runs in swept[:MOST_SWEEPS]], max(0, len(swept) - MOST_SWEEPS)
+        self.drives = {name: self.shown(name) for name in self.sound}  # what mustn't be cut: add_others adds recordings
         self.coupled, self.replayed, self.kept, self.version = {}, {}, None, version_lines(asked=asked)
 
     def add_others(self, coupled, recordings):
@@ -83,21 +88,28 @@ class Played:
         for name, record in self.coupled.items():
             if record["tick"][0]:
                 fail(f"{name} begins at tick {record['tick'][0]}; the whole record is needed")
-        self.replayed = {name: self.call("replay", given=name).splitlines() for name in recordings}
+        for name in recordings:
+            text = self.call("replay", given=name)
+            self.replayed[name], self.drives[name] = text.splitlines(), recording_shown(text, self.excess_at_end(name, text))
 
-    def add_sum(self, name, path=None):
-        content = read(path or name)
-        self.sums[name] = len(content), sum_of(content), path or name
+    def excess_at_end(self, name, text):
+        """The ticks of a recording with an excess, asked for where `replay` leaves it open whether it ends within one."""
+        shown = recording_shown(text)
+        if shown.row["cut"] or shown.row["stretch"] == "0":
+            return frozenset
+        ticks = where(row["excess"] == "1" for row in csv.DictReader(io.StringIO(self.call("signals", given=name))))
+        return lambda: ticks
+
+    def shown(self, name):
+        """What a run shows (lib/showing.py)."""
+        row, margins = (next(row for row in rows if row["run"] == name) for rows in (self.rows, self.margins))
+        weights = {watch: (int(margins[watch]), limit) for watch, limit in self.weights.items()}
+        excess, (ticks, resets) = excess_of(self.records[name], self.threshold), drive_of(self.runs[name]["trace"])
+        return Shown(row, weights, ticks, resets, lambda: where(excess), run=self.runs[name], test=int(self.limits["test"]))
 
     def files(self):
         """The files of the call: not the program, nor the tool's own files."""
         return [name for name, (_, _, path) in self.sums.items() if name == path != program()]
-
-    def refuse_changes(self):
-        """Ends if a file isn't any more what it was when the first command read it."""
-        for name, (_, total, path) in self.sums.items():
-            if sum_of(read(path)) != total:
-                fail(f"{name} changed meanwhile")
 
     def call(self, command, *words, given=None):
         """What a command prints, with a file as standard input if one is given. It is noted with the checksum of that."""

@@ -55,7 +55,7 @@ def version_lines(way=None, asked=None):
 
 def tells_of(lines, total):
     """Whether one of these lines is of this program; it has the kit's name behind it."""
-    return any(line == total or line.startswith(f"{total}, ") for line in lines)
+    return any(line == total or line.startswith(f"{total}, kit ") for line in lines)
 
 
 def is_own(lines):

@@ -5,6 +5,7 @@ from lib.records import stretches
 MOST_NAMED = 8  # places that a sentence names
 EXCESS, NO_EXCESS, CONFIRMED = "an excess begins", "no excess any more", "an excess is confirmed"
 ONSET, RESET, R_PASSED = "the fault begins", "reset", "R has passed since"
+SWITCHES_OFF = ("path-open",)  # classes under which no run shows a reaction: the stages are off from the onset on
 AROUND, MOST_AROUND = 40, 240  # ticks that are shown before and behind a tick; and around several that lie near
 
 
@@ -124,6 +125,8 @@ def lacking(row):
         return "there is no fault"
     if row["class"] == "lapse":
         return "R is no bound for lapses"
+    if row["class"] in SWITCHES_OFF:
+        return "the fault switches the stages off itself"
     if row["acted"] == "0":
         return "the fault never acts"
     if unsettled(row):

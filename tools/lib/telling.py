@@ -254,8 +254,9 @@ def pictures(played):
 
 def others(played):
     """Records of coupled runs, and what level 2 finds in recorded readings."""
-    yield paragraph("These were made elsewhere, and have no share in the verdict. A record doesn't say when the unit is reset, so "
-                    "no confirmed excess is marked. A replay is that of level 2 alone, by this page's calibration.")
+    yield paragraph("These were made elsewhere. A coupled run has no share in the verdict; a recording counts as a sound drive. "
+                    "A record doesn't say when the unit is reset, so no confirmed excess is marked. A replay is that of level 2 "
+                    "alone, by this page's calibration.")
     for place, (name, record) in enumerate(played.coupled.items()):
         marks = marks_of(record, [])
         yield f'<div class="run"><h3>{shown(name)}</h3>\n<div class="parts">'

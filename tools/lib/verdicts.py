@@ -2,12 +2,14 @@
 
 from html import escape
 
-from lib.runs import lacking
+from lib.runs import SWITCHES_OFF, lacking
+from lib.showing import cut_by
 from lib.units import Units
 
 FAILS, OPEN, FITS = "Doesn't fit", "Not judged", "Fits"  # the worst first
 MOST_NAMES = 10  # that a line names
-LISTED_CLASSES = 13
+SHOWING_CLASSES = 13 - len(SWITCHES_OFF)  # listed classes under which a run may show a reaction
+RANGES = {"pedal": 1000, "plate": 1000, "load": 1000, "speed": 8000}  # of what a drive may have
 WITHOUT_LAPSES, WITHOUT_HELD = "--without-lapses", "--without-held-torque"  # words of find and report
 SAID = {WITHOUT_LAPSES: "level 2 never misses a tick", WITHOUT_HELD: "no torque is held when the demand falls"}
 
@@ -37,7 +39,7 @@ def points(played, asked):
     """(state, words) of each point, the worst first."""
     judged = [*beyond_point(played),
               listed_point(played, asked), lapse_point(played, asked), cut_point(played), room_point(played, asked),
-              misses_point(played), peak_point(played), questions_point(played), evidence_point(played)]
+              pairs_point(played, asked), misses_point(played), peak_point(played), questions_point(played), evidence_point(played)]
     return sorted(judged, key=lambda point: [FAILS, OPEN, FITS].index(point[0]))
 
 
@@ -127,7 +129,7 @@ def time_point(under, ticks, asked, units=Units(), unbounded="", held=0):
                   "raise is above the permit table)")
     if asked.tolerant is None:
         return OPEN, f"{lasts}; how many are tolerated wasn't said (--tolerant TIME)."
-    left = max(0, asked.tolerant - 1 - (asked.falls or 0))
+    left = left_of(asked)
     less = f"{units.ticks(asked.tolerant)} less 1, since it may begin between two ticks"
     if asked.falls is not None:
         less += f", and less {units.ticks(asked.falls)} for the torque to fall after the cut"
@@ -138,56 +140,59 @@ def time_point(under, ticks, asked, units=Units(), unbounded="", held=0):
     return FITS, f"{lasts}, and {units.ticks(left)} are tolerated: {less}."
 
 
+def left_of(asked):
+    """The ticks that are left for an excess of those that are tolerated."""
+    return max(0, asked.tolerant - 1 - (asked.falls or 0))
+
+
 def cut_point(played):
-    """Whether a drive that was declared sound is cut, or its pedal limited."""
+    """Whether a drive that was declared sound is cut, or its pedal limited; or a recording is."""
+    cut = [f"{name} {found}" for name, shown in played.drives.items() if (found := cut_by(shown.row, played.units))]
+    if cut:
+        return FAILS, f"Sound drives are cut, {len(cut)} of {len(played.drives)}: {named(cut)}."
     if not played.sound:
         return OPEN, "No run is declared sound (--sound NAME), so whether sound drives are cut isn't said."
-    rows = [row for row in played.rows if row["run"] in played.sound]
-    cut = [f"{row['run']} {found}" for row in rows if (found := cut_by(row, played.units))]
-    if cut:
-        return FAILS, f"Sound drives are cut, {len(cut)} of {len(rows)}: {named(cut)}."
-    if idle := idle_said(played):
-        return OPEN, idle
-    return FITS, f"None of the sound drives is cut ({named(row['run'] for row in rows)})."
+    if unfit := unfit_said(played):
+        return OPEN, unfit
+    return FITS, f"None of the sound drives is cut ({named(played.drives)})."
 
 
-def cut_by(row, units=Units()):
-    """What cuts a run of `table`, or limits its pedal; None if nothing does."""
-    if row["cut"]:
-        return f"by {row['cut']} at {units.ticks(row['cut_at'])}"
-    if row["off_at"]:
-        return f"off at {units.ticks(row['off_at'])}"
-    return f"limited by {row['first']} at {units.ticks(row['first_at'])}" if row["first"] else None
-
-
-def idle_by(row):
-    """Why a run of `table` shows nothing of a sound drive; None if it shows something."""
-    if row["trap"]:
-        return f"whose level 1 traps at {row['trap_at']}"
-    return None if row["last_on"] else "whose stages are on at no tick"
-
-
-def idle_said(played):
-    """Which of the drives that were declared sound show nothing, in a sentence; None if each shows something."""
-    idle = [f"{row['run']}, {why}" for row in played.rows if row["run"] in played.sound and (why := idle_by(row))]
-    return f"Sound drives that aren't driven, or whose level 1 stops, show nothing: {named(idle)}." if idle else None
+def unfit_said(played):
+    """Which of the sound drives show nothing, or too little, in a sentence; None if each shows that it isn't cut."""
+    unfit = [f"{name} ({why})" for name, shown in played.drives.items() if (why := shown.unfit())]
+    return f"Sound drives that don't show whether they are cut: {named(unfit)}." if unfit else None
 
 
 def room_point(played, asked):
-    """How much room a weight leaves to its limit in the drives that were declared sound."""
-    rooms = [(100 * (limit - int(row[watch])) / limit, watch, row)
-             for row in played.margins if row["run"] in played.sound for watch, limit in played.weights.items()]
-    if not rooms:
+    """How much room a weight leaves to its limit in the drives that were declared sound, and in recordings."""
+    rooms = [(100 * (limit - weight) / limit, watch, name, weight, limit) for name, shown in played.drives.items()
+             for watch, (weight, limit) in shown.weights.items()]
+    if not played.sound:
         return OPEN, "No run is declared sound (--sound NAME), so how near sound drives come to a cut isn't said."
-    room, watch, row = min(rooms, key=lambda one: one[0])
-    least = (f"of the sound drives {row['run']} comes nearest to a limit: {watch} weighs {row[watch]} of "
-             f"{played.weights[watch]}, which leaves {int(room)} %")
+    room, watch, name, weight, limit = min(rooms, key=lambda one: one[0])
+    least = f"of the sound drives {name} comes nearest to a limit: {watch} weighs {weight} of {limit}, which leaves {int(room)} %"
     if asked.room is None:
         return OPEN, f"How much room is wanted wasn't said (--room PERCENT); {least}."
-    wanted, idle = f"Room of {asked.room} % is wanted", idle_said(played)
-    if idle and room >= asked.room:
-        return OPEN, f"{wanted}. {idle}"
+    wanted, unfit = f"Room of {asked.room} % is wanted", unfit_said(played)
+    if unfit and room >= asked.room:
+        return OPEN, f"{wanted}. {unfit}"
     return (FAILS if room < asked.room else FITS), f"{wanted}; {least}."
+
+
+def pairs_point(played, asked):
+    """Whether a pair of tracks finds a track that is off by all that it can be, and finds it in the time that is tolerated."""
+    blind = [f"{pair} ({played.pairs[pair]} of {most})" for pair, most in RANGES.items() if played.pairs[pair] >= most]
+    if blind:
+        return FAILS, f"Pairs never find that a track is off, since their tolerances are as great as the range of a reading: {named(blind)}."
+    within = -(-played.pairs["limit"] // played.pairs["up"])
+    found = f"A pair whose tracks differ by more than its tolerance is found within {played.units.ticks(within, 'ticks')}"
+    told = f"{found}: {', '.join(f'{pair} {played.pairs[pair]} of {most}' for pair, most in RANGES.items())}"
+    if asked.tolerant is None:
+        return OPEN, f"{told}. How many ticks are tolerated wasn't said (--tolerant TIME)."
+    left = left_of(asked)
+    if within > left:
+        return FAILS, f"{found}, and only {played.units.ticks(left)} are left of those that are tolerated (pairs.limit, pairs.up)."
+    return FITS, f"{told}."
 
 
 def misses_point(played):
@@ -219,17 +224,35 @@ def questions_point(played):
 
 
 def evidence_point(played):
-    """Whether, for each class of listed faults that the campaign has, some run of one power cycle shows that R is kept."""
-    listed = [row for row in played.rows if row["class"] not in ("none", "lapse")]
+    """Whether, for each class of listed faults that the campaign has, some run of one power cycle shows that R is kept.
+    A class by which no run can show it is left out."""
+    rows = [row for row in played.rows if row["class"] not in ("none", "lapse")]
+    listed = [row for row in rows if row["class"] not in SWITCHES_OFF]
+    off = f" Left out, since such a fault switches the stages off itself: {named(SWITCHES_OFF)}." if len(listed) < len(rows) else ""
     if not listed:
-        return OPEN, "No run has a listed fault, so none shows a reaction. (R is proved, and needs no run.)"
+        return OPEN, f"No run has {'another' if off else 'a'} listed fault, so none shows a reaction. (R is proved, and needs no run.){off}"
     several = [row for row in listed if any(tick > 0 for tick in played.resets(row["run"]))]
     showing = [row["class"] for row in listed if row not in several and not lacking(row)]
     without = [kind for kind in dict.fromkeys(row["class"] for row in listed) if kind not in showing]
     shown_by = f"{len(showing)} of {len(listed)} runs under a listed fault show that R is kept"
-    left = f" Of several power cycles, and so not counted: {len(several)}; see the pictures." if several else ""
+    left = f"{off} Of several power cycles, and so not counted: {len(several)}; see the pictures." if several else off
     if without:
-        return FAILS, f"Reactions without evidence: {shown_by}, and none under {named(without)}.{left}"
+        tell = [f"{kind} at {onset}" for kind in without if (onset := showing_onset(played, kind)) is not None]
+        onsets = (" A run may show it if its fault begins at the tick at which its excess is confirmed: "
+                  f"{named(tell)}." if tell else "")
+        return FAILS, f"Reactions without evidence: {shown_by}, and none under {named(without)}.{onsets}{left}"
     kinds = len(set(showing))
-    return FITS, (f"{shown_by}, at least one of each class that the campaign has, {kinds} of {LISTED_CLASSES}. (A fault that acts may "
-                  f"change nothing of its run.){left}")
+    return FITS, (f"{shown_by}, at least one of each class that the campaign has, {kinds} of the {SHOWING_CLASSES} that "
+                  f"can show it. (A fault that acts may change nothing of its run.){left}")
+
+
+def showing_onset(played, kind):
+    """An onset at which a fault of this class may show that R is kept: the tick at which the excess of one of its drives is
+    confirmed, if no fault begins before. None if no run tells it."""
+    rows = {row["run"]: row for row in played.rows}
+    for group in played.groups():
+        if any(rows[name]["class"] == kind for name in group) and not any(tick > 0 for tick in played.resets(group[0])):
+            for row in (rows[name] for name in group):
+                if row["settled"] == "1" and (row["class"] == "none" or int(row["onset"]) > int(row["confirmed"])):
+                    return int(row["confirmed"])
+    return None

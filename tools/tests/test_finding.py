@@ -14,6 +14,7 @@ from lib.found import HEIGHT, TOP, picture_of, table_of
 from lib.tool import fail
 from lib.units import Units
 from notes import note_of
+from test_verdicts import row_of as run_row
 
 
 def search_with(room=0, left=27, misses=1, spacing=None, said=()):
@@ -105,6 +106,12 @@ class Finding(unittest.TestCase):
                                         (("--without-lapses",), 29, 0, "stretch 30 is above 29")):
             self.assertEqual(words, search_with(left=left, said=said).hindrance_of(Row(0, 50, held), told, {"period": 7})[0])
 
+    def test_a_drive_that_ends_within_an_excess_hinders(self):
+        told = {"stretch": "30", "excess": "5", "lapse": "none", "spacing": "10"}
+        row = Row(0, within="a ends within an excess, at 7")
+        self.assertEqual(row.within, search_with(left=99).hindrance_of(row, told, {"period": 7})[0])
+        self.assertEqual("", search_with(left=99).hindrance_of(Row(0), told, {"period": 7})[0])
+
     def test_recordings_that_begin_on_a_ramp(self):
         """A recording may begin on a ramp if it binds at a tick at which that could go on."""
         rows = [row_of(100, 5, 21, "", fall, ramp) for fall, ramp in ((0, "0"), (90, "34"), (50, "35"), (40, "99"))]
@@ -157,6 +164,71 @@ class Finding(unittest.TestCase):
         dashed = [one for one in root.iterfind(".//{*}polyline") if one.get("stroke-dasharray")]
         y = float(dashed[0].get("points").split()[0].split(",")[1])
         self.assertAlmostEqual(27, (TOP + HEIGHT - y) * most / HEIGHT, delta=0.1)
+
+
+REPLAY = """ticks 8
+pedal none; greatest 0 of 10000
+plate none; greatest 0 of 10000
+load none; greatest 0 of 10000
+speed none; greatest 0 of 10000
+torque none; greatest 4 of 10000
+trip never
+stretch 4
+surplus 300
+"""
+
+
+class Drives(InFolder):
+    """What runs and recordings show, by a stand-in for the program: torques that rise to 300 above what is permitted."""
+
+    def setUp(self):
+        super().setUp()
+        self.put("c.toml", '[[run]]\nname = "a"\ntrace = "d.csv"\nimage = "i.hex"\n')
+        self.put("d.csv", "pedal,speed,raise,reset\n" + "0,0,0,0\n" * 8)
+        self.search, self.calls = search_with(), []
+        self.search.drives, self.search.test, self.search.traces, self.search.beyond = "c.toml", 30, {}, {}
+        self.search.asked.recordings, self.search.call = [], self.printed
+        self.row = run_row("a", "none", last_on="7", stretch="4")
+        self.replay = REPLAY
+
+    def printed(self, command, *words, given=None):
+        self.calls.append(command)
+        rising = "".join(f"{tick},{40 * (tick + 1) - 20},0,1,1,1,-\n" for tick in range(8))
+        return {"table": ",".join(self.row) + "\n" + ",".join(self.row.values()) + "\n", "replay": self.replay,
+                "record": f"tick,torque,limit,path1,path2,on,found\n{rising}",
+                "signals": "tick,actual,permitted\n" + "".join(f"{tick},{40 * (tick + 1) - 20},0\n" for tick in range(8))}[command]
+
+    def test_a_run_that_ends_within_an_excess(self):
+        for threshold, within in ((0, "a ends within an excess, at 7"), (299, "a ends within an excess, at 7"), (300, "")):
+            self.assertEqual(within, self.search.within_of("cal.toml", Row(threshold)))
+        self.assertEqual(1, self.calls.count("record"))
+
+    def test_a_run_that_ends_within_an_excess_before_a_reset(self):
+        self.put("d.csv", "pedal,speed,raise,reset\n" + "0,0,0,0\n" * 4 + "0,0,0,1\n" + "0,0,0,0\n" * 3)
+        self.assertEqual("a ends within an excess, at 3", self.search.within_of("cal.toml", Row(139)))
+        self.row |= {"last_on": "3"}
+        self.assertEqual("", self.search.within_of("cal.toml", Row(140)))
+
+    def test_a_recording_that_ends_within_an_excess(self):
+        self.search.drives, self.search.asked.recordings = None, ["m.csv"]
+        for threshold, within in ((299, "m.csv ends within an excess, at 7"), (300, "")):
+            self.assertEqual(within, self.search.within_of("cal.toml", Row(threshold)))
+
+    def test_what_shows_nothing_ends_the_search(self):
+        lapse = '[[run]]\nname = "a"\ntrace = "d.csv"\nimage = "i.hex"\n{}\n'
+        for text, row, why in (("slices = [[0, 0, 0, 0, 0, 0, 0, 0, 0]]", {}, "its level 1 executes nothing"),
+                               ('faults = [{ class = "lapse", onset = 7, after = [0] }]', {"class": "lapse", "onset": "7", "acted": "1"},
+                                "no tick of the power cycle follows its fault"),
+                               ("", {"last_on": ""}, "its stages are on at no tick")):
+            self.put("c.toml", lapse.format(text))
+            self.row = run_row("a", "none", last_on="7", stretch="4") | row
+            self.assertEqual(f"c.toml: a shows nothing of its drive: {why}", note_of(self.search.shown_by, "cal.toml"))
+        self.put("c.toml", lapse.format(""))
+        self.put("d.csv", "pedal,speed,raise,reset\n0,0,0,0\n")
+        self.search.traces, self.row = {}, run_row("a", "none", last_on="0")
+        self.assertEqual("c.toml: a shows nothing of its drive: it has a single tick", note_of(self.search.shown_by, "cal.toml"))
+        self.search.drives, self.search.asked.recordings, self.replay = None, ["m.csv"], REPLAY.replace("ticks 8", "ticks 1")
+        self.assertEqual("m.csv shows nothing of its drive: it has a single tick", note_of(self.search.shown_by, "cal.toml"))
 
 
 if __name__ == "__main__":

@@ -4,7 +4,8 @@ from unittest import mock
 
 from lib import judging
 from lib.expecting import Check, Expected
-from lib.judging import Shown, inputs_of, recording_shown, verdict, verdicts
+from lib.judging import inputs_of, verdict, verdicts
+from lib.showing import Shown, recording_shown
 from lib.units import Units
 from in_folder import InFolder
 from notes import note_of
@@ -28,8 +29,9 @@ surplus -474
 """
 
 
-def shown_by(row, resets=(), ticks=100, excess=list, **weights):
-    return Shown(row, {watch: (weights.get(watch, 0), limit) for watch, limit in LIMITS.items()}, ticks, resets, excess)
+def shown_by(row, resets=(), ticks=100, excess=frozenset, test=30, run=None, **weights):
+    weights = {watch: (weights.get(watch, 0), limit) for watch, limit in LIMITS.items()}
+    return Shown(row, weights, ticks, resets, excess, run=run or {}, test=test)
 
 
 class Judging(InFolder):
@@ -55,8 +57,8 @@ class Judging(InFolder):
         self.fails("sound", True, SOUND | {"first": "pedal", "first_at": "9"}, "it is limited by pedal at 9")
         self.fails("sound", True, SOUND | {"first": "start", "first_at": "30", "off_at": "31"}, "it is off at 31")
         self.fails("sound", True, SOUND | {"trap": "fetch", "trap_at": "4"},
-                   "it is a run whose level 1 traps at 4, and shows nothing")
-        self.fails("sound", True, SOUND | {"last_on": ""}, "it is a run whose stages are on at no tick, and shows nothing")
+                   "it shows nothing: its level 1 traps at 4")
+        self.fails("sound", True, SOUND | {"last_on": ""}, "it shows nothing: its stages are on at no tick")
 
     def test_a_fault_that_never_acts_shows_nothing(self):
         row = CUT | {"acted": "0"}
@@ -70,7 +72,7 @@ class Judging(InFolder):
         self.fails("room", 12, SOUND, "answers weighs 8 of 9, which leaves 11 %", answers=8)
         self.holds("room", 100, SOUND)
         self.holds("room", 0, SOUND | {"first": "pedal", "first_at": "9"}, pedal=10)
-        self.fails("room", 0, SOUND | {"last_on": ""}, "it is a run whose stages are on at no tick, and shows nothing")
+        self.fails("room", 0, SOUND | {"last_on": ""}, "it shows nothing: its stages are on at no tick")
         self.fails("room", 0, CUT, "it is cut by torque at 31", torque=5)
 
     def test_cut(self):
@@ -89,14 +91,54 @@ class Judging(InFolder):
     def test_mirror_in_a_test_cuts_nothing(self):
         row = SOUND | {"class": "flip", "onset": "7", "acted": "1", "cut": "mirror", "cut_at": "7"}
         words = "it isn't shown: mirror finds something in a start-up test, at 7, and hides what comes later"
-        self.fails("cut", ["mirror"], row, words)
-        self.holds("cut", [], row, "it isn't cut")
-        self.fails("cut", ["mirror"], row | {"off_at": "61"}, words)
-        self.fails("cut", [], row | {"off_at": "61"}, "it is off at 61")
+        # The test is at the ticks 0 to 30, or 70 to 100.
+        for tick, resets in ((7, (0,)), (7, (0, 50)), (30, (0,)), (30, (0, 50)), (95, (0, 70))):
+            found = row | {"onset": str(tick), "cut_at": str(tick)}
+            said = words.replace("at 7", f"at {tick}")
+            self.fails("cut", ["mirror"], found, said, resets=resets)
+            self.fails("cut", ["mirror"], found | {"off_at": "61"}, said, resets=resets)
+            self.fails("cut", [], found | {"off_at": "61"}, "it is off at 61", resets=resets)
+        self.holds("cut", [], row, "it isn't cut", resets=(0,))
+        self.fails("cut", ["mirror"], row | {"off_at": "61"}, "no tick of the power cycle follows its fault, so nothing is shown of it", resets=(0, 8))
         self.holds("cut", ["mirror"], row | {"off_at": "8"})
-        # At the last tick, or right before a reset, nothing shows where it was: it counts as a cut.
-        self.fails("cut", [], row, "it is cut by mirror at 7", ticks=8)
-        self.fails("cut", [], row, "it is cut by mirror at 7", resets=(0, 8))
+        self.holds("cut", ["mirror"], row | {"cut_at": "31", "onset": "31", "off_at": "32"}, resets=(0,))
+
+    def test_a_failed_start_up_test_cuts(self):
+        """Also where the run ends before its stages are seen to be off."""
+        failed = SOUND | {"class": "path1-closed", "onset": "0", "acted": "1", "first": "start", "first_at": "99", "last_on": "68"}
+        self.fails("cut", [], failed, "it is kept off by start at 99", resets=(69,))
+        self.fails("room", 0, failed, "it is kept off by start at 99", resets=(69,))
+        self.fails("cut", ["start"], failed, "start finds something at 99, and the stages don't go off", resets=(69,))
+
+    def test_a_running_start_up_test_leaves_it_open_what_comes_of_a_fault(self):
+        row = SOUND | {"class": "path1-closed", "onset": "80", "acted": "1", "last_on": "68"}
+        words = "it ends too soon: a start-up test is running at its last tick"
+        for key, value in (("cut", []), ("room", 0)):
+            self.fails(key, value, row, words, resets=(69,))
+            self.holds(key, value, row, resets=(68,))
+            self.holds(key, value, SOUND | {"last_on": "68"}, resets=(69,))
+        self.fails("sound", True, row | {"class": "lapse"}, words, resets=(69,))
+        self.fails("stretch", 9, row, f"{words}; its longest excess has 2 ticks (20 ms)", resets=(69,))
+        self.fails("latest.after_fault", 99, row, "it isn't shown: a start-up test is running at its last tick", resets=(69,))
+        self.holds("latest.after_fault", 0, row, resets=(68,))
+
+    def test_a_fault_in_a_later_power_cycle_than_the_cut_shows_nothing(self):
+        later = CUT | {"onset": "70", "cut_at": "31", "off_at": "32", "last_on": "99", "reaction": "1"}
+        self.fails("cut", ["torque"], later, "its fault comes at 70, after the cut by torque at 31", resets=(0, 65))
+        self.holds("cut", ["torque"], later, resets=(0, 71))
+        self.fails("latest.after_excess", 99, later, "it isn't shown: of several power cycles the table doesn't show whether the fault, after "
+                   "the first excess, came before a cut", resets=(0, 65))
+        self.holds("latest.after_excess", 99, later | {"onset": "31"}, resets=(0, 65))
+
+    def test_what_can_show_nothing(self):
+        """A fault or a lapse at the last tick, a single tick, slices of zeros."""
+        zeros, words = {"slices": [[0] * 9]}, "no tick of the power cycle follows its fault, so nothing is shown of it"
+        for key, value in (("sound", True), ("room", 0), ("cut", []), ("stretch", 99)):
+            self.assertFalse(self.judged(key, value, SOUND, run=zeros).is_so)
+            self.assertFalse(self.judged(key, value, SOUND | {"last_on": "0"}, ticks=1).is_so)
+            for kind, fault in (("lapse", {"after": [0]}), ("halt", {})):
+                run = {"faults": [{"class": kind, "onset": 99, **fault}]}
+                self.fails(key, value, SOUND | {"class": kind, "onset": "99", "acted": "1"}, words, run=run)
 
     def test_not_cut(self):
         self.holds("cut", [], SOUND, "it isn't cut")
@@ -104,7 +146,7 @@ class Judging(InFolder):
                    "it isn't cut, and level 1 traps at 0")
         self.fails("cut", [], CUT, "it is cut by torque at 31")
         self.fails("cut", [], SOUND | {"off_at": "40"}, "it is off at 40")
-        self.fails("cut", [], SOUND | {"last_on": ""}, "it is a run whose stages are on at no tick, and shows nothing")
+        self.fails("cut", [], SOUND | {"last_on": ""}, "it shows nothing: its stages are on at no tick")
 
     def test_latest_after_the_excess(self):
         key = "latest.after_excess"
@@ -144,16 +186,16 @@ class Judging(InFolder):
         trapped = {"trap": "fetch", "trap_at": "4"}
         self.holds("stretch", 33, CUT | trapped)
         self.fails("stretch", 99, SOUND | trapped,
-                   "it is a run whose level 1 traps at 4, and shows nothing; its longest excess has 2 ticks (20 ms)")
+                   "it shows nothing: its level 1 traps at 4; its longest excess has 2 ticks (20 ms)")
         self.fails("stretch", 99, SOUND | {"last_on": "", "stretch": "0"},
-                   "it is a run whose stages are on at no tick, and shows nothing; its longest excess has 0 ticks (0 ms)")
-        self.fails("stretch", 99, CUT | {"settled": "0"}, "it ends too soon to show that; its longest excess has 33 ticks (330 ms)")
+                   "it shows nothing: its stages are on at no tick; its longest excess has 0 ticks (0 ms)")
+        self.fails("stretch", 99, CUT | {"settled": "0"}, "it ends too soon; its longest excess has 33 ticks (330 ms)")
 
     def test_an_excess_at_the_end_leaves_it_open_what_comes_of_it(self):
-        last, before = ([False] * tick + [True] + [False] * (99 - tick) for tick in (99, 49))
+        last, before = {99}, {49}
         for key, value in (("sound", True), ("room", 0), ("cut", []), ("stretch", 99)):
             for ticks, resets, words in ((last, (), "at 99, its last tick, there is"), (before, (50,), "at 49, right before a reset, there is"),
-                                         (before, (), None), (before, (49,), None), (last[:99], (), None)):
+                                         (before, (), None), (before, (49,), None), (set(), (), None)):
                 told = self.judged(key, value, SOUND, excess=lambda ticks=ticks: ticks, resets=resets)
                 self.assertEqual((told.is_so, words or "") == (words is None, words or "") and (words or "") in told.words, True, told)
         # Off at the end, or without any excess, nothing has to be asked.
@@ -165,7 +207,7 @@ class Judging(InFolder):
         self.assertEqual((told.is_so, told.words), (False, "it isn't shown: torque trips at 30, and from there on a replay tells no "
                                                     "excess; its longest excess has 5 ticks"))
         open_end = recording_shown(REPLAY.replace("torque at 30", "torque none").replace("trip at 30", "trip never")
-                                   .replace("plate at 40", "plate none"), lambda: [False] * 1999 + [True])
+                                   .replace("plate at 40", "plate none"), lambda: {1999})
         self.assertEqual([verdict("m.csv", Check(key, "?", value), open_end, Units()).is_so for key, value in (
             ("stretch", 99), ("sound", True), ("cut", []), ("room", 0))], [False] * 4)
 

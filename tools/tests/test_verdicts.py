@@ -3,12 +3,14 @@
 import unittest
 from types import SimpleNamespace
 
+from lib.showing import Shown, recording_shown
 from lib.units import Units
 from lib.verdicts import (FAILS, FITS, OPEN, beyond_point, cut_by, cut_point, evidence_point, held_of, is_on_first_ramp,
-                          lapse_point, lapse_stretch, listed_point, misses_point, named, peak_point, points, questions_point,
+                          lapse_point, lapse_stretch, listed_point, misses_point, named, pairs_point, peak_point, points, questions_point,
                           room_point, sentence, time_point, verdict)
 
 LIMITS = {"reaction": "34", "lapse": "50", "verdicts": "3", "excess": "5", "spacing": "80", "stretch": "38", "peak": "2300", "ramp": "0"}
+PAIRS = {"pedal": 50, "plate": 50, "load": 50, "speed": 50, "up": 2, "down": 1, "limit": 10}
 WEIGHTS = {"pedal": 10, "plate": 10, "load": 10, "speed": 10, "torque": 5, "answers": 9}
 
 
@@ -23,14 +25,22 @@ def shown_by(name, kind):
     return row_of(name, kind, onset="0", acted="1", confirmed="31", reaction="29", settled="1", cut="torque", cut_at="31")
 
 
-def margin_of(name, **weights):
-    return {"run": name, **dict.fromkeys(WEIGHTS, "0"), **weights}
+def drive_of(row, weights=(), ticks=100, **others):
+    """A sound drive, of which each watch but these weighs nothing."""
+    return {row["run"]: Shown(row, {watch: (dict(weights).get(watch, 0), limit) for watch, limit in WEIGHTS.items()}, ticks, **others)}
 
 
 def played_of(**parts):
     rows = [row_of("sound", "none"), shown_by("halt-0", "halt")]
     return SimpleNamespace(**{"units": Units(), "limits": LIMITS, "period": 10, "has_ramp": False, "rows": rows, "taken": {}, "sweeps": [], "sound": ["sound"],
-                              "weights": WEIGHTS, "margins": [margin_of("sound", torque="4"), margin_of("halt-0", torque="5")], "blind": [], "resets": lambda name: [], **parts})
+                              "drives": drive_of(rows[0], {"torque": 4}), "blind": [], "resets": lambda name: [], "pairs": PAIRS,
+                              "groups": lambda: [[row["run"] for row in parts.get("rows", rows)]], **parts})
+
+
+def judged_of(*drives, **parts):
+    """What is played with these sound drives."""
+    together = {name: shown for drive in drives for name, shown in drive.items()}
+    return played_of(drives=together, sound=list(together), **parts)
 
 
 def asked_of(tolerant=40, falls=1, room=20, said=()):
@@ -90,35 +100,76 @@ class Verdicts(unittest.TestCase):
 
     def test_sound_drives_are_those_that_are_declared(self):
         self.assertEqual(cut_point(played_of())[0], FITS)
-        self.assertEqual(cut_point(played_of(sound=[]))[0], OPEN)
+        self.assertEqual(cut_point(played_of(sound=[], drives={}))[0], OPEN)
         cut = [row_of("sound", "none", first="pedal", cut="torque", cut_at="34"), row_of("test", "none", off_at="40"),
-               row_of("other", "none", cut="load"), row_of("limp", "lapse", first="pedal", first_at="9"), row_of("good", "none")]
-        self.assertEqual(cut_point(played_of(rows=cut, sound=["sound", "test", "limp", "good"])), (
+               row_of("limp", "lapse", first="pedal", first_at="9"), row_of("good", "none")]
+        self.assertEqual(cut_point(judged_of(*map(drive_of, cut))), (
             FAILS, "Sound drives are cut, 3 of 4: sound by torque at 34, test off at 40, limp limited by pedal at 9."))
 
     def test_a_sound_drive_that_shows_nothing_is_not_judged(self):
-        rows = [row_of("never", "none", last_on=""), row_of("trapped", "none", trap="fetch", trap_at="1"), row_of("good", "none")]
-        self.assertEqual(cut_point(played_of(rows=rows, sound=["never", "trapped", "good"])), (
-            OPEN, "Sound drives that aren't driven, or whose level 1 stops, show nothing: never, whose stages are on at no tick, "
-            "trapped, whose level 1 traps at 1."))
-        self.assertEqual(cut_point(played_of(rows=rows, sound=["good"]))[0], FITS)
+        drives = [drive_of(row_of("never", "none", last_on="")), drive_of(row_of("trapped", "none", trap="fetch", trap_at="1")), drive_of(row_of("good", "none"))]
+        self.assertEqual(cut_point(judged_of(*drives)), (
+            OPEN, "Sound drives that don't show whether they are cut: never (its stages are on at no tick), trapped (its level 1 traps at 1)."))
+        self.assertEqual(cut_point(judged_of(drives[2]))[0], FITS)
         cut = row_of("cut", "none", trap="fetch", trap_at="1", cut="torque", cut_at="2")
-        self.assertEqual(cut_point(played_of(rows=[cut], sound=["cut"]))[0], FAILS)
+        self.assertEqual(cut_point(judged_of(drive_of(cut)))[0], FAILS)
+
+    def test_a_sound_drive_that_shows_too_little_is_not_judged(self):
+        """As in judge and find: it ends within an excess, here or right before a reset; it has a single tick; its lapse comes
+        at its last tick; its level 1 executes nothing."""
+        lapse = {"faults": [{"class": "lapse", "onset": 99, "after": [0]}]}
+        for drive, why in (
+                (drive_of(row_of("a", "none", stretch="3"), excess=lambda: {97, 98, 99}), "it ends too soon: at 99, its last tick, there is an excess"),
+                (drive_of(row_of("a", "none", stretch="3"), resets=(0, 40), excess=lambda: {39}),
+                 "it ends too soon: at 39, right before a reset, there is an excess"),
+                (drive_of(row_of("a", "none", last_on="0"), ticks=1), "it has a single tick"),
+                (drive_of(row_of("a", "lapse", onset="99", acted="1"), run=lapse), "no tick of the power cycle follows its fault"),
+                (drive_of(row_of("a", "lapse", onset="99", acted="0"), run=lapse), "its fault never acts"),
+                (drive_of(row_of("a", "none"), run={"slices": [[0] * 9]}), "its level 1 executes nothing")):
+            said = f"Sound drives that don't show whether they are cut: a ({why})."
+            self.assertEqual(cut_point(judged_of(drive)), (OPEN, said))
+            self.assertEqual(room_point(judged_of(drive), asked_of(room=0)), (OPEN, f"Room of 0 % is wanted. {said}"))
+            self.assertEqual(sentence([state for state, _ in points(judged_of(drive), asked_of())])[:10], "Not judged")
+
+    def test_a_recording_counts_as_a_sound_drive(self):
+        """Its weights are those that judge compares with the wanted room."""
+        lines = ["ticks 2000", *(f"{pair} none; greatest 8 of 10" for pair in ("pedal", "plate", "load", "speed")), "torque none; greatest 2 of 5",
+                 "trip never", "stretch 0", "surplus 1"]
+        recording = {"m.csv": recording_shown("\n".join(lines))}
+        played = played_of(drives={**drive_of(row_of("sound", "none")), **recording})
+        self.assertEqual([room_point(played, asked_of(room=room))[0] for room in (20, 21)], [FITS, FAILS])
+        self.assertIn("m.csv comes nearest to a limit: pedal weighs 8 of 10, which leaves 20 %", room_point(played, asked_of())[1])
+        self.assertEqual(cut_point(played), (FITS, "None of the sound drives is cut (sound, m.csv)."))
+        lines[5:7] = "torque at 30; greatest 5 of 5", "trip at 30"
+        cut = played_of(drives={**drive_of(row_of("sound", "none")), "m.csv": recording_shown("\n".join(lines))})
+        self.assertEqual(cut_point(cut), (FAILS, "Sound drives are cut, 1 of 2: m.csv by torque at 30."))
 
     def test_room_of_a_sound_drive_that_shows_nothing_is_not_judged(self):
-        rows = [row_of("never", "none", last_on=""), row_of("trapped", "none", trap="fetch", trap_at="1"), row_of("good", "none")]
-        margins = [margin_of("never"), margin_of("trapped"), margin_of("good", torque="4")]
-        for sound, room, state in ((["never"], 20, OPEN), (["trapped", "good"], 20, OPEN), (["trapped", "good"], 21, FAILS), (["good"], 20, FITS)):
-            told = room_point(played_of(rows=rows, margins=margins, sound=sound), asked_of(room=room))
+        never, good = drive_of(row_of("never", "none", last_on="")), drive_of(row_of("good", "none"), {"torque": 4})
+        trapped = drive_of(row_of("trapped", "none", trap="fetch", trap_at="1"))
+        for drives, room, state in (([never], 20, OPEN), ([trapped, good], 20, OPEN), ([trapped, good], 21, FAILS), ([good], 20, FITS)):
+            told = room_point(judged_of(*drives), asked_of(room=room))
             self.assertEqual(told[0], state)
-            self.assertEqual("show nothing" in told[1], state == OPEN)
+            self.assertEqual("don't show" in told[1], state == OPEN)
 
     def test_room_is_that_of_the_nearest_limit(self):
         self.assertEqual([room_point(played_of(), asked_of(room=room))[0] for room in (0, 20, 21, None)], [FITS, FITS, FAILS, OPEN])
-        self.assertEqual(room_point(played_of(sound=[]), asked_of())[0], OPEN)
-        third = played_of(weights={**WEIGHTS, "torque": 3}, margins=[margin_of("sound", torque="2")])
+        self.assertEqual(room_point(played_of(sound=[], drives={}), asked_of())[0], OPEN)
+        third = played_of(drives={"sound": Shown(row_of("sound", "none"), {"pedal": (0, 10), "torque": (2, 3)}, 100)})
         self.assertEqual([room_point(third, asked_of(room=room))[0] for room in (33, 34)], [FITS, FAILS])
         self.assertIn("sound comes nearest to a limit: torque weighs 2 of 3, which leaves 33 %", room_point(third, asked_of())[1])
+
+    def test_pairs(self):
+        """A pair finds a track that is off by all that it can be, within what is tolerated."""
+        for changes, tolerant, state, words in (
+                ({}, 40, FITS, "by more than its tolerance is found within 5 ticks: pedal 50 of 1000, plate 50 of 1000, load 50 of 1000, speed 50 of 8000."),
+                ({"pedal": 999, "speed": 7999}, 40, FITS, "pedal 999 of 1000"), ({}, None, OPEN, "(--tolerant TIME)"),
+                ({"pedal": 1000, "speed": 8000}, 40, FAILS, "as great as the range of a reading: pedal (1000 of 1000), speed (8000 of 8000)."),
+                ({"limit": 76}, 40, FITS, "within 38 ticks"), ({"limit": 77}, 40, FAILS, "within 39 ticks, and only 38 are left"),
+                ({"limit": 10000}, None, OPEN, "within 5000 ticks"), ({"limit": 10000}, 40, FAILS, "within 5000 ticks")):
+            told = pairs_point(played_of(pairs=PAIRS | changes), asked_of(tolerant))
+            self.assertEqual(told[0], state)
+            self.assertIn(words, told[1])
 
     def test_units_stand_beside_the_numbers(self):
         units = Units(10**7)
@@ -146,17 +197,38 @@ class Verdicts(unittest.TestCase):
         self.assertEqual(evidence_point(played_of(rows=[row_of("sound", "none"), row_of("l", "lapse")]))[0], OPEN)
         late = {**shown_by("halt-90", "halt"), "onset": "60"}
         self.assertEqual(evidence_point(played_of(rows=[shown_by("halt-0", "halt"), late])),
-                         (FITS, "1 of 2 runs under a listed fault show that R is kept, at least one of each class that the campaign has, 1 of 13. "
+                         (FITS, "1 of 2 runs under a listed fault show that R is kept, at least one of each class that the campaign has, 1 of the 12 that can show it. "
                           "(A fault that acts may change nothing of its run.)"))
         self.assertEqual(evidence_point(played_of(rows=[shown_by("halt-0", "halt"), {**late, "class": "skip"}])),
-                         (FAILS, "Reactions without evidence: 1 of 2 runs under a listed fault show that R is kept, and none under skip."))
+                         (FAILS, "Reactions without evidence: 1 of 2 runs under a listed fault show that R is kept, and none under skip. "
+                          "A run may show it if its fault begins at the tick at which its excess is confirmed: skip at 31."))
+
+    def test_a_class_that_switches_the_stages_off_itself_is_left_out(self):
+        off = row_of("off", "path-open", onset="0", acted="1")
+        left = " Left out, since such a fault switches the stages off itself: path-open."
+        told = evidence_point(played_of(rows=[shown_by("halt-0", "halt"), off]))
+        self.assertEqual((told[0], told[1].endswith(left), "1 of 1 runs" in told[1]), (FITS, True, True))
+        told = evidence_point(played_of(rows=[row_of("sound", "none"), off]))
+        self.assertEqual((told[0], told[1].endswith(left)), (OPEN, True))
+
+    def test_a_class_without_evidence_is_told_an_onset_that_may_show_it(self):
+        """The tick at which the excess is confirmed, of a run of the same drive in which no fault begins before."""
+        flip = row_of("flip-3", "flip", onset="3", acted="1", cut="mirror", cut_at="3")
+        for confirmed, onset in ((row_of("a", "none", confirmed="31", settled="1"), 31), (row_of("a", "none", confirmed="31", settled="0"), None),
+                                 (row_of("a", "none"), None), ({**shown_by("a", "bus"), "onset": "32"}, 31), (shown_by("a", "bus"), None)):
+            told = evidence_point(played_of(rows=[confirmed, flip]))
+            self.assertEqual(told[0], FAILS)
+            self.assertEqual("confirmed: flip at 31." in told[1], onset is not None, told)
+        other = [row_of("a", "none", confirmed="31", settled="1"), flip]
+        self.assertNotIn("flip at", evidence_point(played_of(rows=other, groups=lambda: [["a"], ["flip-3"]]))[1])
+        self.assertNotIn("flip at", evidence_point(played_of(rows=other, resets=lambda name: [0, 9]))[1])
 
     def test_a_run_of_several_power_cycles_shows_nothing(self):
         for resets, state in (([], FITS), ([0], FITS), ([0, 50], FAILS), ([1], FAILS)):
             self.assertEqual(evidence_point(played_of(resets=lambda name, resets=resets: resets))[0], state)
         rows = [shown_by("a", "halt"), shown_by("b", "halt")]
         point = evidence_point(played_of(rows=rows, resets=lambda name: [9] if name == "b" else []))
-        self.assertEqual(point, (FITS, "1 of 2 runs under a listed fault show that R is kept, at least one of each class that the campaign has, 1 of 13. "
+        self.assertEqual(point, (FITS, "1 of 2 runs under a listed fault show that R is kept, at least one of each class that the campaign has, 1 of the 12 that can show it. "
                                  "(A fault that acts may change nothing of its run.) "
                                  "Of several power cycles, and so not counted: 1; see the pictures."))
 
@@ -174,8 +246,8 @@ class Verdicts(unittest.TestCase):
         self.assertEqual({state for state, _ in points(played_of(), asked_of())}, {FITS})
         played = played_of(blind=["no tie of the comparison"], limits=limits_of(peak="0"))
         states = [state for state, _ in points(played, asked_of(tolerant=None))]
-        self.assertEqual(states, [FAILS] * 2 + [OPEN] * 2 + [FITS] * 4)
-        self.assertEqual(sentence(states), "It doesn't fit, in 2 of 8 points; 2 more aren't judged.")
+        self.assertEqual(states, [FAILS] * 2 + [OPEN] * 3 + [FITS] * 4)
+        self.assertEqual(sentence(states), "It doesn't fit, in 2 of 9 points; 3 more aren't judged.")
         self.assertEqual(sentence([FAILS, FITS]), "It doesn't fit, in 1 of 2 points.")
         self.assertEqual(sentence([FAILS, OPEN]), "It doesn't fit, in 1 of 2 points; 1 more isn't judged.")
         self.assertEqual(sentence([OPEN, FITS]), "Not judged, in 1 of 2 points.")
@@ -183,9 +255,9 @@ class Verdicts(unittest.TestCase):
 
     def test_lines_stand_as_html(self):
         lines = list(verdict(played_of(blind=["no <b>"]), asked_of()))
-        self.assertEqual(lines[0], '<div class="verdict"><p><strong>It doesn\'t fit, in 1 of 8 points.</strong></p><ul>')
+        self.assertEqual(lines[0], '<div class="verdict"><p><strong>It doesn\'t fit, in 1 of 9 points.</strong></p><ul>')
         self.assertEqual(lines[1], "<li><strong>Doesn't fit:</strong> The questions are blind: no &lt;b&gt;.</li>")
-        self.assertEqual((len(lines), lines[-1]), (10, "</ul></div>"))
+        self.assertEqual((len(lines), lines[-1]), (11, "</ul></div>"))
 
     def test_many_names_are_cut(self):
         self.assertEqual(named(map(str, range(10))), "0, 1, 2, 3, 4, 5, 6, 7, 8, 9")
