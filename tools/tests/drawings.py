@@ -39,7 +39,7 @@ class Scale:
 
 
 class Drawing:
-    """A picture of a record as draw_record and report draw it."""
+    """A picture of a record as draw and report draw it."""
 
     def __init__(self, source):
         root = xml.etree.ElementTree.fromstring(source)
