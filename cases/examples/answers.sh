@@ -1,1 +1,1 @@
-./egasim answers examples/calibration/threshold.toml
+./egasim answers cases/examples/threshold.toml

@@ -1,1 +1,1 @@
-./egasim bound --cal examples/calibration/threshold.toml
+./egasim bound --cal cases/examples/threshold.toml
