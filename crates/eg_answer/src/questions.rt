@@ -18,15 +18,6 @@ pub struct Question {
     pub answer: u16,
 }
 
-impl Question {
-    /// An equal question. It takes no memory.
-    pub fn copy(&self) -> Question
-        ensures { result ≡ self.now }
-    {
-        *self
-    }
-}
-
 impl Default for Question {
     ghost use Rattle.eg_answer.specs.Questions.{no_question};
 

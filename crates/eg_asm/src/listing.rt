@@ -20,7 +20,7 @@ use itoa::Buffer;
 use std::alloc::Global;
 
 /// The source that words are written as (docs/FORMATS.md, "Sources"): a line of up to 14 bytes for each word.
-/// Assembled, it gives the same words. Refused only where memory runs out.
+/// Assembled, it gives the same words. NoMemory may come for any words.
 pub fn disassemble(alloc: Global, words: &[u16]) -> Result<Vec<u8>, NoMemory>
     requires { length words.now ≤ MOST_WORDS }
     ensures text { IfOk result (λ text. text.items ≡ source_text words.now) }
@@ -35,7 +35,7 @@ pub fn disassemble(alloc: Global, words: &[u16]) -> Result<Vec<u8>, NoMemory>
 }
 
 /// The image that words are written as (docs/FORMATS.md, "Images"): four hexadecimal digits a line. Where
-/// they are at most 1,024, it is read as the same words. Refused only where memory runs out.
+/// they are at most 1,024, it is read as the same words. NoMemory may come for any words.
 pub fn image_text(alloc: Global, words: &[u16]) -> Result<Vec<u8>, NoMemory>
     ensures text { IfOk result (λ text. text.items ≡ image_text words.now) }
     ensures image { IfOk result (λ text. length words.now ≤ MOST_WORDS → IsImageOf text.items words.now) }

@@ -1,7 +1,8 @@
-// The refusal of a call that ends early only where memory runs out.
+// The refusal of a call that has no other one.
 use std::alloc::{AllocError, AllocFailed};
 
-/// Memory ran out. A call that answers this is refused for no other reason.
+/// Memory ran out: the one refusal of a call that may answer this. Where no clause of the call says when, it
+/// may come at any time.
 #[derive(Clone, Copy, Debug, PartialEq, Eq)]
 pub struct NoMemory;
 

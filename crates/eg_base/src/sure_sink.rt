@@ -31,7 +31,7 @@ impl Model for SureSink {
 }
 
 impl SureSink {
-    /// An output with no bytes, and with room for `room` bytes. Refused only where memory runs out.
+    /// An output with no bytes, and with room for `room` bytes. NoMemory may come for any room.
     pub fn new(alloc: Global, room: usize) -> Result<SureSink, NoMemory>
         ensures state { IfOk result (λ sink. sink ≡ record { bytes = []; room = room; faults = 0 }) }
         ensures shown { IfOk result (λ sink. ⟦<SureSink as Sink>⟧.shows sink

@@ -173,6 +173,8 @@ module _ (engine : EngineKind) (cal : CalibrationParts) (accepted : IsAccepted c
     proper = proper_run engine cal accepted f valid d within n;
     cal_is = refl;
     fault_is = refl;
+    image_is = refl;
+    plan_is = refl;
     size = length-replicate n d;
     driven = All-replicate (λ (row : DriveRow). row.reset ≡ false) n d quiet;
     hidden = subst (All FindsNothing) (sym rows_are) (rows_hidden r.setting accepted (of_run n) each answers);

@@ -12,12 +12,14 @@ use Rattle.eg_torque.specs.declared.ramp.TheConstants.{NO_RAMP}
 use Rattle.eg_values.specs.Calibration.{CalibrationParts, IsAccepted}
 use Rattle.eg_values.specs.Excess.{least_permitted, greatest_permitted, ramp_ticks}
 use Rattle.eg_record.specs.declared.row.Row.{Row}
+use Rattle.eg_record.specs.Spans.{EachDriveSpan}
 use Rattle.eg_model.specs.Moments.{effective_drive, demand_at}
 use Rattle.eg_model.specs.Engines.{BenchEngine}
+use Rattle.eg_model.specs.Bench.{Run}
 use Rattle.eg_model.specs.Rows.{record_rows}
 use Rattle.eg_model.proofs.LapseWeights.{rounded_up}
 use Rattle.eg_laws.specs.Showing.{limit_before, ArePermitted}
-use Rattle.eg_laws.specs.Ramps.{is_on_ramp, RampLasts, RampIsShort, NoRampTakesNoTick, LevelRampHasNoEnd, RecordsLeaveRamps, RecordsPermitDemand}
+use Rattle.eg_laws.specs.Ramps.{is_on_ramp, RampLasts, RampIsShort, RampComesDown, NoRampTakesNoTick, LevelRampHasNoEnd, RecordsLeaveRamps, RecordsComeDownRamps, RecordsPermitDemand}
 use Rattle.eg_laws.proofs.PeakLaws.{grid_at-within, demand_at-least}
 use Rattle.eg_laws.proofs.ShowingLaws.{permitted_rows}
 
@@ -147,16 +149,37 @@ module _ (cal : CalibrationParts) (accepted : IsAccepted cal) where
       under : (n q fall : ℕ) → n * fall < most - least → most - least ≤ q * fall → n < q
       under n q fall less up = grind (arith, less, up)
 
-  -- without a ramp no row is above its demand
+  -- without a ramp the permitted torque of a row is its demand
+  level : (cal.rules.fall == NO_RAMP) ≡ true → (row : Row) (before : List Row) → ComeDown cal (row ∷ before) →
+      row.limit ≡ demand_at cal row.drive
+  unfolding ComeDown ramped
+  level none row before down = down.0 ∙ ap (λ b. if b then demand_at cal row.drive
+      else max (demand_at cal row.drive) (limit_after before - cal.rules.fall)) none
+
+  -- so no row is above it
   never : (cal.rules.fall == NO_RAMP) ≡ true → (rows : List Row) → ComeDown cal rows → (n : ℕ) → RampLasts cal n rows → n ≤ 0
-  unfolding ComeDown is_on_ramp ramped
+  unfolding is_on_ramp
   never none rows down zero lasts = omega arith
   never none [] down (suc n) lasts = absurd (let within = lasts.within in omega (arith, within))
   never none (row ∷ before) down (suc n) lasts = absurd
       (let above : demand_at cal row.drive < row.limit = ltb-true _ _ (and_parts _ _ lasts.each).0 in
-      let same : row.limit ≡ demand_at cal row.drive = (down.0 ∙ ap (λ b. if b then demand_at cal row.drive
-      else max (demand_at cal row.drive) (limit_after before - cal.rules.fall)) none) in
+      let same = level none row before down in
       omega (arith, above, same))
+
+  -- ---- how far a row is above its demand ----
+
+  near : (row : Row) (before : List Row) → ComeDown cal (row ∷ before) → All (IsRaisedAtMost most) (row ∷ before) →
+      (n : ℕ) → RampLasts cal n (row ∷ before) →
+      row.limit - demand_at cal row.drive ≤ most - least - n * cal.rules.fall
+  unfolding limit_after
+  near row before down raised n lasts = elim (cases_Bool (cal.rules.fall == NO_RAMP)) [
+    | inl none ↦ let same = level none row before down in omega (arith, same)
+    | inr some ↦ law row.limit (demand_at cal row.drive) (n * cal.rules.fall)
+        (below some (row ∷ before) down raised n lasts.within lasts.each) (demand_at-least cal accepted row.drive)
+  ]
+    where
+      law : (limit demand steps : ℕ) → limit + steps ≤ most → least ≤ demand → limit - demand ≤ most - least - steps
+      law limit demand steps low high = omega (arith, low, high)
 
   -- ---- the law ----
 
@@ -184,6 +207,10 @@ module _ (cal : CalibrationParts) (accepted : IsAccepted cal) where
           let same : quotient_up (most - least) cal.rules.fall ≡ ticks = cc in
           omega (arith, few, same)
 
+  comes_down : (start : ℕ) (rows : List Row) → ComeDown cal rows → RampComesDown cal start rows
+  comes_down start rows down later before row n whole raised lasts =
+      near row before (come_down-rest cal later (row ∷ before) (subst (ComeDown cal) whole down)) raised n lasts
+
 pub no_ramp_takes_no_tick : NoRampTakesNoTick
 unfolding ramp_ticks
 no_ramp_takes_no_tick rules none = rw (eq-eqb rules.fall NO_RAMP none) refl
@@ -206,12 +233,19 @@ all_demanded cal none (row ∷ before) permitted = All-cons (Demanded cal) row b
 -- ---- of every record ----
 
 module _ {E : Type 0} (b : BenchEngine E) where
-  pub records_leave_ramps : RecordsLeaveRamps b
-  records_leave_ramps r run valid newer span older whole drive = short r.setting.cal run.accepted (length older) span
-      (subst (ComeDown r.setting.cal) (sym drive.span.is)
+  each_comes_down : (r : Run) → EachDriveSpan (λ start rows. ComeDown r.setting.cal rows) (record_rows b r)
+  each_comes_down r newer span older whole drive = subst (ComeDown r.setting.cal) (sym drive.span.is)
       (come_down r.setting.cal drive.span.later drive.span.first older drive.span.begins drive.span.goes_on
       (subst (λ rows. ArePermitted r.setting.cal (rows ++ older)) drive.span.is
-      (permitted-rest r.setting.cal newer (span ++ older) (subst (ArePermitted r.setting.cal) whole (permitted_rows b r))))))
+      (permitted-rest r.setting.cal newer (span ++ older) (subst (ArePermitted r.setting.cal) whole (permitted_rows b r)))))
+
+  pub records_leave_ramps : RecordsLeaveRamps b
+  records_leave_ramps r run valid newer span older whole drive =
+      short r.setting.cal run.accepted (length older) span (each_comes_down r newer span older whole drive)
+
+  pub records_come_down_ramps : RecordsComeDownRamps b
+  records_come_down_ramps r run valid newer span older whole drive =
+      comes_down r.setting.cal run.accepted (length older) span (each_comes_down r newer span older whole drive)
 
   pub records_permit_demand : RecordsPermitDemand b
   records_permit_demand r none = all_demanded r.setting.cal none (record_rows b r) (permitted_rows b r)

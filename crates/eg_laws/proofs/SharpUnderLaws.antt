@@ -30,7 +30,6 @@ use Rattle.eg_model.specs.Rows.{row_of, rows_of}
 use Rattle.eg_model.specs.Premises.{AreProper, Follows, full_excesses}
 use Rattle.eg_model.specs.SharpCut.{ArePlain}
 use Rattle.eg_model.specs.Engines.{BenchEngine, IsOneLoad, KeepsBenchLaws, ShowsOneLoad}
-use Rattle.eg_laws.specs.Availability.{trips}
 use Rattle.eg_laws.specs.SharpUnder.{leaves_readings, SparesReadings, IsSharpAt, IsSharp, RecordsCutSharplyUnder}
 use Rattle.eg_model.proofs.TickLemmas.{Each, Pair, Pedal, Plate, Load, Speed, bit_of, found_by, Fields, fields, tripped-cons, moment-full_excess}
 use Rattle.eg_model.proofs.TripLemmas.{fed_bits-cons, fed_bits-skip, latch1_from_trip}
@@ -287,10 +286,6 @@ module _ (s : Setting) (accepted : IsAccepted s.cal) (x : Tick) (h : List Tick) 
   pairs_now : (p : Pair) → found_by p now.found ≡ false
   pairs_now p = same.pairs p ∙ found.pairs p
 
-  alone_now : trips now.found ≡ now.found.torque
-  unfolding trips found_by
-  alone_now = rw (same.mirror ∙ found.mirror, pairs_now Plate, pairs_now Load, pairs_now Speed) refl
-
   path1_now : now.path1 ≡ x.effects.conducts PATH_1 (is_confirmed s.cal.rules.torque (full_excesses s h))
   unfolding path1_at Each AreProper
   path1_now = (fields s x.effects x.entry (moments_of s h)).path1 ∙ ap (x.effects.conducts PATH_1)
@@ -316,13 +311,19 @@ module _ (s : Setting) (accepted : IsAccepted s.cal) (x : Tick) (h : List Tick) 
     unfolding row_of
     path1-is = refl
 
+    pair-is : (p : Pair) → found_by p row.found ≡ false
+    pair-is p = ap (found_by p) (row_found s start x h) ∙ pairs_now p
+
     is_sharp_at : IsSharpAt s.fault s.cal.rules.torque s.cal.rules.kt s.cal.rules.threshold row (SpanRows s start h)
     unfolding found_by
     is_sharp_at = record {
       torque = ap (λ w. w.torque) (row_found s start x h) ∙ torque_now
           ∙ ap (is_first s.cal.rules.torque) (bits (x ∷ h) ∙ ap (map bit) (rows-cons s start x h));
-      alone = ap trips (row_found s start x h) ∙ alone_now ∙ sym (ap (λ w. w.torque) (row_found s start x h));
-      pedal = ap (λ w. w.pedal) (row_found s start x h) ∙ pairs_now Pedal;
+      mirror = ap (λ w. w.mirror) (row_found s start x h) ∙ same.mirror ∙ found.mirror;
+      pedal = pair-is Pedal;
+      plate = pair-is Plate;
+      load = pair-is Load;
+      speed = pair-is Speed;
       path1 = path1-is ∙ path1_now ∙ ap₂ (λ (y : Effects) b. y.conducts PATH_1 b) effects-is
           (ap (is_confirmed s.cal.rules.torque) (bits h));
     }

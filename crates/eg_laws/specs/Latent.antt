@@ -1,6 +1,6 @@
 -- Outside the headline. Which faults can stay hidden: there are runs of every length in which they act, and
 -- no watch finds anything.
-use Rattle.std.specs.Prelude.{ℤ, pos, negsuc, ◌+◌, ◌-◌, ◌/◌, ◌≤◌, ◌<◌, slice_index, ◌==◌, ◌||◌, nat_le, min, max, ◌⊎◌, ◌≡◌, ℕ, Bool, true, false, List, [], ◌∷◌, All, length, Some, if◌then◌else◌}
+use Rattle.std.specs.Prelude.{ℤ, pos, negsuc, ◌+◌, ◌-◌, ◌/◌, ◌≤◌, ◌<◌, slice_index, ◌==◌, ◌||◌, nat_le, min, max, ◌⊎◌, ◌≡◌, ℕ, Bool, true, false, List, [], ◌∷◌, All, length, replicate, Some, if◌then◌else◌}
 use Rattle.eg_num.specs.Arithmetic.{estimate}
 use Rattle.eg_num.specs.Interpolation.{grid_at}
 use Rattle.eg_sensor.specs.declared.tracks.TheConstants.{PEDAL_1, PEDAL_2, PLATE_1, PLATE_2, PAIRED_TRACKS}
@@ -27,13 +27,15 @@ abbrev pub FindsNothing : Row → Type 0
 FindsNothing row = (watch : Watch) → is_found row.found watch ≡ false
 
 -- A run of n ticks with this calibration and under this fault, in which the unit is never reset, and no watch
--- finds anything at any tick.
+-- finds anything at any tick. Level 1 has no code, and executes nothing.
 pub record HiddenRun {E : Type 0} (b : BenchEngine E) (cal : CalibrationParts) (fault : Fault) (n : ℕ)
     : Type 0 where
   pub run : Run
   pub proper : IsRun run
   pub cal_is : run.setting.cal ≡ cal
   pub fault_is : run.setting.fault ≡ Some fault
+  pub image_is : run.setting.image ≡ []
+  pub plan_is : run.plan ≡ replicate 9 0 ∷ []
   pub size : length run.drive ≡ n
   pub driven : All (λ drive. drive.reset ≡ false) run.drive
   pub hidden : All FindsNothing (record_rows b run)

@@ -1,7 +1,7 @@
 -- Outside the headline. Several faults at once: at a tick anything may be out of order here, and no fault
--- is named. Where level 2 sees each excess up to the tick that confirms one, the stages are off from the
--- next tick on where path 1 obeys; and from R ticks after that tick where path 2 obeys, if the monitoring
--- module isn't wild, and answers are sent at the usual ticks.
+-- is named. Where level 2 could see an excess at every tick of the span up to the one that confirms it, the
+-- stages are off from the next tick on where path 1 obeys; and from R ticks after that tick where path 2
+-- obeys, if the monitoring module isn't wild, and answers are sent at the usual ticks.
 use Rattle.std.specs.Prelude.{◌≡◌, ℕ, ◌+◌, ◌≤◌, true, false, List, ◌++◌, All, length}
 use Rattle.eg_answer.specs.Times.{reaction_of}
 use Rattle.eg_values.specs.Calibration.{IsAccepted}

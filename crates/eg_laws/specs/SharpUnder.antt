@@ -17,7 +17,6 @@ use Rattle.eg_model.specs.Engines.{BenchEngine}
 use Rattle.eg_model.specs.Bench.{Run}
 use Rattle.eg_model.specs.Rows.{record_rows}
 use Rattle.eg_model.specs.Records.{IsRun}
-use Rattle.eg_laws.specs.Availability.{trips}
 
 -- The classes under which all tracks are sound, the raise is read as it is sent, and level 2's modules run as
 -- without a fault. (They act on the plate, on when answers are sent, on the monitoring module, and on the
@@ -33,14 +32,17 @@ abbrev pub SparesReadings : Option Fault → Type 0
 SparesReadings fault = IfSome fault (λ f. leaves_readings f.class ≡ true)
 
 -- What is so at a row of a drive span, `before` being the rows of the span before it: `torque` is found
--- exactly if the full-efficiency excess is first confirmed; no other watch that trips is found, so that none
--- has tripped before it; nor is `pedal`; and path 1 conducts as the fault lets it, its latch being open
--- exactly if that excess was confirmed before the row.
+-- exactly if the full-efficiency excess is first confirmed; neither `pedal` nor another watch that trips is
+-- found; and path 1 conducts as the fault lets it, its latch being open exactly if that excess was confirmed
+-- before the row.
 pub record IsSharpAt (fault : Option Fault) (weights : WeightParts) (kt threshold : ℕ) (row : Row)
     (before : List Row) : Type 0 where
   pub torque : row.found.torque ≡ is_first weights (map (full_excess kt threshold) (row ∷ before))
-  pub alone : trips row.found ≡ row.found.torque
+  pub mirror : row.found.mirror ≡ false
   pub pedal : row.found.pedal ≡ false
+  pub plate : row.found.plate ≡ false
+  pub load : row.found.load ≡ false
+  pub speed : row.found.speed ≡ false
   pub path1 : row.path1
       ≡ (effects fault row.tick).conducts PATH_1
       (is_confirmed weights (map (full_excess kt threshold) before))

@@ -6,9 +6,9 @@ ghost use Rattle.eg_laws.specs.Seeing.{SeenExcessIsCut, SeenExcessIsCutInTime};
 ghost use Rattle.eg_laws.specs.Examples.{StaysOn, Shows, high_pedal, low_loads, low_speeds, braked_parts, unseen_brake, left_out, disturbed_between, both_closed, closed_and_wild, missed_last, cut_late, ramped_parts, disturbed_once};
 
 /// The reaction under several faults at once, whatever they are (docs/CONCEPT.md, "Why the unit reacts"):
-/// where level 2 sees each excess up to the tick that confirms one, the stages are off from the next tick
-/// on if path 1 obeys, and from R ticks after it if path 2 obeys, answers are sent at the usual ticks and
-/// the monitoring module isn't wild. It does nothing when it runs.
+/// where level 2 could see an excess at every tick of the span up to the one that confirms it, the stages
+/// are off from the next tick on if path 1 obeys, and from R ticks after it if path 2 obeys, answers are sent
+/// at the usual ticks and the monitoring module isn't wild. It does nothing when it runs.
 pub fn seen_excess_is_cut()
     ensures cut { SeenExcessIsCut }
     ensures in_time { SeenExcessIsCutInTime }

@@ -54,7 +54,8 @@ of_early P x end late none t low high = at_tick P x t (λ early. none) (λ from.
 abbrev SeenEach : List Tick → Type 0
 SeenEach h = Each (λ x. SeesExcess x.effects) h
 
--- whatever is out of order, where level 2 sees each excess a trip has come by the tick that confirms it
+-- whatever is out of order, where level 2 could see an excess at every tick so far a trip has come by the tick that
+-- confirms one
 seen_trips : (s : Setting) → IsAccepted s.cal → (h : List Tick) → SeenEach h → AreProper s h → IsExcessConfirmed s h →
     tripped (moments_of s h) ≡ true
 seen_trips s accepted h each proper confirmed =
@@ -150,8 +151,9 @@ off_by_silence s accepted regular obeys start front back x follows none long =
     (of_history IsRegular s.fault start (front ++ back) follows.1 (λ t low high. regular t)) none long x
     (subst (Obeys PATH_2) (sym follows.0) (obeys (start + length (front ++ back))))
 
--- Where level 2 sees each excess, a trip comes, and then silence. So the stages are off from R ticks after the one
--- that confirms it, where path 2 obeys, and the monitoring module asks and judges as ever.
+-- Where level 2 could see an excess at every tick up to the one that confirms it, a trip comes, and then silence. So
+-- the stages are off from R ticks after that tick, where path 2 obeys, and the monitoring module asks and judges as
+-- ever.
 pub seen_cut_by_answers : (s : Setting) → IsAccepted s.cal → (h : List Tick) → SeenEach h → AreProper s h →
     IsExcessConfirmed s h → (more : List Tick) (x : Tick) → AreRegular (more ++ h) →
     reaction_of s.cal.times ≤ length more + 1 → Obeys PATH_2 x.effects → is_on_after s (more ++ h) x ≡ false

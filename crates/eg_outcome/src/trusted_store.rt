@@ -62,7 +62,9 @@ impl<'a, O: Opens + Kinds + Copy> TrustedStore<'a, O> {
         is_word(self.words, name) || self.opener.is_regular(name)
     }
 
-    /// Appends the first `most` bytes of the file of that name, or all where they are fewer.
+    /// Appends the first `most` bytes of the file of that name, or all where they are fewer. Failed comes for
+    /// a file that may not be read. No clause says when it doesn't come for one that may: the system may fail
+    /// to read any file.
     fn append(&mut self, name: &str, most: usize, into: &mut Vec<u8>) -> Result<(), ReadRefusal>
         ensures ok { OnOk result
             (Reads (O.files self.old.opener) name.now most into.old.items into.new.items) }

@@ -31,7 +31,7 @@ impl Model for PagedMemory {
 }
 
 impl PagedMemory {
-    /// A memory of which every word is 0. Refused only where memory runs out.
+    /// A memory of which every word is 0. NoMemory may come at any time.
     pub fn new(alloc: Global) -> Result<PagedMemory, NoMemory>
         ensures words { IfOk result (λ memory. memory ≡ replicate WORDS 0) }
         ensures shown { IfOk result (λ memory. ⟦<PagedMemory as Guarded>⟧.shows memory
@@ -43,7 +43,7 @@ impl PagedMemory {
     }
 
     /// A memory of the words of this one in one array. A page that is the same as that of `last` is meant to
-    /// be shared with it. Refused only where memory runs out.
+    /// be shared with it. NoMemory may come at any time.
     pub fn like(
         alloc: Global,
         memory: &FlatMemory,

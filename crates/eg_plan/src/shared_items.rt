@@ -22,8 +22,8 @@ impl<T: Copy> Model for SharedItems<T> {
 }
 
 impl<T: Copy> SharedItems<T> {
-    /// The items of this vector, in its order, without the room that it has for more. Refused only where
-    /// memory runs out, or where the heap doesn't take that room back.
+    /// The items of this vector, in its order, without the room that it has for more. NoMemory may come at
+    /// any time, also if the heap doesn't take that room back.
     pub fn of(mut items: Vec<T>) -> Result<SharedItems<T>, NoMemory>
         ensures { IfOk result (λ shared. shared ≡ items.items) }
     {

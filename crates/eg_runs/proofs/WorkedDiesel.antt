@@ -10,7 +10,7 @@ use Rattle.eg_model.proofs.WholeModel.{whole_model}
 use Rattle.eg_runs.specs.DieselRuns.{diesel_report, racks, quantities, torques, reset_at_6}
 
 -- every definition of a run of a diesel engine
-unfoldable whole_diesel : ℕ
+unfoldable pub whole_diesel : ℕ
 unfolding whole_model at_rest next_boost quantity_of diesel_step diesel
 whole_diesel = 0
 

@@ -52,7 +52,7 @@ pub use short_faulty_runs::{
     latched_run, limited_run, offset_track, path_2_runs, wild_run,
 };
 pub use short_runs::{alternating_slices, full_run, passed_test, probing_run, raise_is_read};
-pub use throttles::greatest_throttle_that_never_cuts;
+pub use throttles::{greatest_throttle_of_a_diesel, greatest_throttle_that_never_cuts};
 pub use unusual_runs::{
     early_answers_run, reading_that_is_cut_off_run, signal_that_stays_run, two_answers_run,
 };

@@ -15,7 +15,7 @@ pub fn no_line_is_read_ahead()
 {}
 
 /// Does nothing when it runs. Its clauses are a law of how the commands over lines end Done, from bytes to
-/// bytes: over a reader and a stream that tell their bytes (`eg_lines::ReadLines::told`,
+/// bytes: over a reader and a stream that tell their bytes (`eg_lines::LateLines::new`,
 /// `eg_base::StdSink::told`) the lines are those of the bytes that the reader had left, and the stream holds
 /// exactly what is written of them.
 pub fn bytes_lead_to_bytes()
