@@ -1,7 +1,7 @@
 -- The worst-case reaction is a period for each wrong verdict that it takes to confirm, and one more, less the
 -- send tick and 1; the bound for lapses is whole periods. A calibration says how long a period is, when in it
 -- answers are sent and when they may come. The ticks of a period are counted from its begin.
-use Rattle.std.specs.Prelude.{◌≡◌, ℕ, ◌+◌, ◌*◌, ◌-◌, ◌/◌, ◌≤◌, ◌<◌, min, nat_lt, if◌then◌else◌}
+use Rattle.std.specs.Prelude.{◌≡◌, ℕ, ◌+◌, ◌*◌, ◌-◌, ◌/◌, ◌≤◌, ◌<◌, min}
 use Rattle.eg_num.specs.Arithmetic.{quotient_up}
 use Rattle.eg_num.specs.Windows.{WeightParts}
 
@@ -85,15 +85,16 @@ most_wrong w rights =
     min ((w.limit - 1 + rights * w.down) / w.up + 1)
     (feeds_to_confirm w + rights * (feeds_to_confirm w - 1))
 
--- Without a ramp no stretch of excess under lapses has more ticks: one less than the runs that confirm, the
--- worst-case reaction, and a period for each wrong verdict that a counter takes beyond those that confirm in
--- a row, less 1 if there is one.
+-- How many ticks the periods have whose verdicts a counter takes as wrong beyond those that confirm in a row.
+unfoldable pub further_ticks : WeightParts → TimeParts → ℕ
+further_ticks torque times =
+    (most_wrong times.weights (rights_between torque times) - feeds_to_confirm times.weights) * times.period
+
+-- Without a ramp no stretch of excess under lapses has more ticks than this: one less than the runs that
+-- confirm, the worst-case reaction, and those further ticks, less 1 if there are any.
 unfoldable pub longest_missed_of : WeightParts → TimeParts → ℕ
 longest_missed_of torque times =
-    let verdicts = feeds_to_confirm times.weights in
-    let wrong = most_wrong times.weights (rights_between torque times) in
-    feeds_to_confirm torque - 1 + reaction_of times + (wrong - verdicts) * times.period
-    - (if nat_lt verdicts wrong then 1 else 0)
+    feeds_to_confirm torque - 1 + reaction_of times + (further_ticks torque times - 1)
 
 -- ---- missed runs of level 2 after which wrong answers never cut ----
 
