@@ -20,6 +20,9 @@ pub mod AvailabilityLaws
 pub mod AvailabilityRecords
 pub mod ShortStretches
 pub mod LeastLapseLaw
+pub mod MissedRuns
+pub mod WrongVerdicts
+pub mod MissedStretchLaws
 pub mod StretchLaws
 pub mod LongestStretch
 pub mod BurstLaws

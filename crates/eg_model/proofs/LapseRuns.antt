@@ -22,10 +22,10 @@ use Rattle.eg_model.specs.Signals.{tripped, no_signals, last_signals, signal}
 use Rattle.eg_model.specs.Detection.{feeds_at, fed_bits, finds, torque_bit}
 use Rattle.eg_answer.specs.Modules.{modules_before_react, modules}
 use Rattle.eg_model.specs.Answers.{is_whole}
-use Rattle.eg_model.specs.Paths.{latch1}
+use Rattle.eg_model.specs.Paths.{latch1, both_conduct}
 use Rattle.eg_model.specs.Moments.{demand_at, last_limit, limit_at, moment, moments_of}
 use Rattle.eg_model.specs.Rows.{row_of, rows_of}
-use Rattle.eg_model.specs.Premises.{AreProper, true_excesses}
+use Rattle.eg_model.specs.Premises.{AreProper, IsProper, true_excesses}
 use Rattle.eg_model.specs.Lapses.{IsLapse}
 use Rattle.eg_model.specs.Seeing.{IsUndisturbed, SeesExcess}
 use Rattle.eg_model.proofs.TickLemmas.{Each, Fields, fields, no_trip, tripped-cons, untripped_before}
@@ -185,31 +185,34 @@ never_falls : (fall b d : ℕ) → fall ≡ 0 → b ≤ ramped fall b d
 unfolding ramped
 never_falls fall b d none = rw none (omega arith)
 
-stands_low : (s : Setting) → IsAccepted s.cal → s.cal.rules.fall ≡ 0 → (h : List Tick) → AllOrNoneEach h → AreProper s h →
-    (last_signals (moments_of s h)).permitted ≤ last_limit (moments_of s h)
-unfolding AreProper Each moments_of last_signals last_limit no_signals
-stands_low s a held [] each proper = omega arith
-stands_low s a held (x ∷ h) each proper = elim (cases_Bool each.0.runs) [
-  | inr out ↦ rw (now.permitted ∙ signal_stays x.effects past PERMITTED _ _ each.0.unflipped (each.0.ran PERMITTED ∙ out), limit-is)
+low_now : (s : Setting) → IsAccepted s.cal → s.cal.rules.fall ≡ 0 → (x : Tick) (h : List Tick) → AllOrNone x.effects →
+    IsProper s (both_conduct x.effects (moments_of s h)) x.entry →
+    (last_signals (moments_of s h)).permitted ≤ last_limit (moments_of s h) →
+    (moment s x.effects x.entry (moments_of s h)).signals.permitted ≤ (moment s x.effects x.entry (moments_of s h)).limit
+low_now s a held x h one proper before = elim (cases_Bool one.runs) [
+  | inr out ↦ rw (now.permitted ∙ signal_stays x.effects past PERMITTED _ _ one.unflipped (one.ran PERMITTED ∙ out), limit-is)
       (omega (arith, before, never_falls s.cal.rules.fall (last_limit past) (demand_at s.cal x.entry.drive) held))
-  | inl runs ↦ (let seen = sees s x past each.0 runs in
+  | inl runs ↦ (let seen = sees s x past one runs in
       elim (cases_Bool (tripped past)) [
         | inl after ↦ rw (now.permitted ∙ signal_tripped x.effects past PERMITTED _ _ seen.runs after) (omega arith)
-        | inr untripped ↦ permitted-below s x past seen.runs seen.undisturbed untripped a (inr before) (errs_safely s x past seen proper.0)
+        | inr untripped ↦ permitted-below s x past seen.runs seen.undisturbed untripped a (inr before) (errs_safely s x past seen proper)
       ])
 ]
   where
     past : List Moment
     past = moments_of s h
 
-    before : (last_signals past).permitted ≤ last_limit past
-    before = stands_low s a held h each.1 proper.1
-
     now : Fields Drive true s x.effects x.entry past (moment s x.effects x.entry past)
     now = fields s x.effects x.entry past
 
     limit-is : (moment s x.effects x.entry past).limit ≡ ramped s.cal.rules.fall (last_limit past) (demand_at s.cal x.entry.drive)
     limit-is = now.limit ∙ (unfold limit_at in refl)
+
+stands_low : (s : Setting) → IsAccepted s.cal → s.cal.rules.fall ≡ 0 → (h : List Tick) → AllOrNoneEach h → AreProper s h →
+    (last_signals (moments_of s h)).permitted ≤ last_limit (moments_of s h)
+unfolding AreProper Each moments_of last_signals last_limit no_signals
+stands_low s a held [] each proper = omega arith
+stands_low s a held (x ∷ h) each proper = low_now s a held x h each.0 proper.0 (stands_low s a held h each.1 proper.1)
 
 -- so it is where the ramp never comes down: at a tick that level 2 misses its own stays as it was
 pub low_where_held : (s : Setting) → IsAccepted s.cal → s.cal.rules.fall ≡ 0 → (h : List Tick) → AllOrNoneEach h → AreProper s h →
