@@ -22,6 +22,7 @@ pub mod ShortStretches
 pub mod LeastLapseLaw
 pub mod MissedRuns
 pub mod WrongVerdicts
+pub mod OneVerdict
 pub mod MissedStretchLaws
 pub mod StretchLaws
 pub mod LongestStretch

@@ -46,8 +46,8 @@ pub record Cut (times : TimeParts) (ms : List Moment) (t m : ℕ) : Type 0 where
 
 full_at_first : (times : TimeParts) (ms : List Moment) (t : ℕ) → AreTimes times → Full times ms t 0
 full_at_first times ms t are = record {
-  period = over / times.period;
-  since = over % times.period;
+  period = (t + times.period - times.send - 1) / times.period;
+  since = (t + times.period - times.send - 1) % times.period;
   seen = 0;
   at = (let inside = send_within times are in let some = period_least times are in omega (arith, inside, some));
   room = (let some = period_least times are in omega (arith, some));
@@ -55,9 +55,6 @@ full_at_first times ms t are = record {
   ran = omega arith;
   whole = λ w. (unfold runs_in in refl);
 }
-  where
-    abbrev over : ℕ
-    over = t + times.period - times.send - 1
 
 -- no answer before the send tick of a period
 none_before : (s : Setting) → AreTimes s.cal.times → (h : List Tick) → AllOrNoneEach h → (k j : ℕ) →

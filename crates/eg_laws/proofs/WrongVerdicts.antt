@@ -41,13 +41,14 @@ module _ (w : WeightParts) (are : AreWeights w) where
   ]
 
   runs : (k : ℕ) (bits : List Bool) → is_confirmed w bits ≡ false → Runs w k bits
-  runs zero bits none = record { run = 0; wrong = unfold TrueRun in tt; few = omega arith }
-  runs (suc k) [] none = record { run = 0; wrong = unfold TrueRun in tt; few = omega arith }
+  unfolding TrueRun
+  runs zero bits none = record { run = 0; wrong = tt; few = omega arith }
+  runs (suc k) [] none = record { run = 0; wrong = tt; few = omega arith }
   runs (suc k) (true ∷ bits) none =
       let r = runs k bits (unconfirmed_before w true bits none) in
       record {
         run = suc r.run;
-        wrong = unfold TrueRun in (refl, r.wrong);
+        wrong = (refl, r.wrong);
         few = rw (count-cons (λ b. b) true (take k bits), count-cons not true (take k bits)) (omega (arith, r.few));
       }
   runs (suc k) (false ∷ bits) none =
@@ -55,7 +56,7 @@ module _ (w : WeightParts) (are : AreWeights w) where
       let r = runs k bits before in
       record {
         run = 0;
-        wrong = unfold TrueRun in tt;
+        wrong = tt;
         few = rw (count-cons (λ b. b) false (take k bits), count-cons not false (take k bits))
             (one_more _ _ r.run (many - 1) (let l = run_short r.run bits r.wrong before in omega (arith, l)) r.few);
       }
@@ -69,7 +70,7 @@ module _ (w : WeightParts) (are : AreWeights w) where
   -- so with one more there are at most as many as the bound says for so many right ones
   pub few_wrong : (k : ℕ) (bits : List Bool) → k ≤ length bits → is_confirmed w bits ≡ false → (rights : ℕ) →
       count_by not (take k bits) ≤ rights → k + 1 ≤ most_wrong w rights + count_by not (take k bits)
-  unfolding most_wrong
+  unfolding most_wrong weight
   few_wrong k bits within none rights fewer = law first second
     where
       bad : ℕ
@@ -88,7 +89,6 @@ module _ (w : WeightParts) (are : AreWeights w) where
       weighs = go below (scaled good rights w.down fewer)
         where
           go : weight w (take k bits) < w.limit → good * w.down ≤ rights * w.down → bad * w.up ≤ w.limit - 1 + rights * w.down
-          unfolding weight
           go l m = omega (arith, l, m)
 
       first : bad + 1 ≤ (w.limit - 1 + rights * w.down) / w.up + 1

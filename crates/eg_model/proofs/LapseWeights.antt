@@ -45,7 +45,7 @@ count-both (b ∷ us) = rw (count-cons (λ c. c) b us, count-cons not b us) (go 
 -- ---- what the newest feeds weigh ----
 
 -- a window of the newest feeds weighs no more than the greatest
-weight_below : (w : WeightParts) (n : ℕ) (bits : List Bool) → weight w (take n bits) ≤ greatest w bits
+pub weight_below : (w : WeightParts) (n : ℕ) (bits : List Bool) → weight w (take n bits) ≤ greatest w bits
 unfolding weight
 weight_below w zero bits = omega arith
 weight_below w (suc n) [] = omega arith
