@@ -7,9 +7,8 @@ use Rattle.eg_fault.specs.Effects.{sends_at}
 use Rattle.eg_fault.proofs.ClassLemmas.{regular}
 use Rattle.eg_model.proofs.LapseAnswers.{absent_off_place}
 use Rattle.eg_laws.proofs.FewVerdicts.{quotient_positive}
-use Rattle.std.proofs.Common.{◌≡◌, ℕ, zero, suc, ◌+◌, ◌-◌, ◌*◌, ◌/◌, ◌%◌, ◌≤◌, ◌<◌, Bool, true, false, List, [], ◌∷◌, length, take, inl, inr, ◌⊎◌, Some, None, refl, sym, ap, ap₂, ◌∙◌, subst, arith}
+use Rattle.std.proofs.Common.{◌≡◌, ℕ, zero, suc, ◌+◌, ◌-◌, ◌*◌, ◌%◌, ◌≤◌, ◌<◌, Bool, true, false, List, [], ◌∷◌, length, take, inl, inr, ◌⊎◌, Some, None, refl, sym, ap, ap₂, ◌∙◌, subst, arith}
 use Rattle.std.proofs.lemmas.Nat.{mod-mul-add}
-use Rattle.std.proofs.Math.Nat.{div-mul-le_self}
 use Rattle.std.proofs.lemmas.Bool.{cases_lt, or_left, or_from, or_parts, and_left, and_right, lt-ltb, le-ltb, ne_eqb}
 use Rattle.eg_num.specs.Windows.{is_reached, is_confirmed, is_first, greatest}
 use Rattle.eg_answer.specs.Times.{TimeParts, AreTimes, periods_between_misses, miss_spacing_of}
@@ -23,14 +22,40 @@ use Rattle.eg_model.specs.Answers.{is_answer, whole_since_answer, is_sent, mark_
 use Rattle.eg_model.specs.Paths.{latch2}
 use Rattle.eg_model.specs.Moments.{moment, moments_of}
 use Rattle.eg_model.specs.Premises.{Follows}
+use Rattle.eg_model.specs.Lapses.{IsLapse}
 use Rattle.eg_laws.specs.Availability.{misses_tick, IsSpacedLapse}
-use Rattle.eg_model.proofs.PeriodLemmas.{quotient}
 use Rattle.eg_model.proofs.TickLemmas.{length-moments, untripped_before, fields}
 use Rattle.eg_model.proofs.Silence.{period_least, send_within, verdict_none, verdict_some, wrongs, with_wrong, wrongs-cons, latch2-cons}
 use Rattle.eg_model.proofs.PlainTick.{plain}
 use Rattle.eg_model.proofs.SharpCutLaw.{usual_mark, right_answer, one_answer, sent_now, mark_plain, whole_plain, whole-cons, right_alone}
 use Rattle.eg_laws.proofs.MissWeights.{Weighs, weighs_at_first, weighs_anew, weighs_more, taken_back, never_reached, never_confirmed}
 use Rattle.eg_laws.proofs.MissTicks.{missed, as_tick, to_tick, lapse_tick, counts_as_missed, answered_plain}
+
+-- From tick `start` on and before tick `end` a lapse spoils at most `most` verdicts that weigh together less than the
+-- limit, before right ones have taken that back: a miss at a send tick spoils two, another one. Two misses lie so far
+-- apart that they do.
+pub record SparesVerdicts (s : Setting) (start end : ℕ) : Type 0 where
+  pub lapse : IsLapse s.fault
+  pub most : ℕ
+  pub some : 1 ≤ most
+  pub small : most ≤ 2
+  pub few : most * s.cal.times.weights.up < s.cal.times.weights.limit
+  pub sent : (tick : ℕ) → start + tick < end → misses_tick s.fault (start + tick) ≡ true →
+      tick % s.cal.times.period ≡ s.cal.times.send → most ≡ 2
+  pub apart : (first second : ℕ) → start ≤ first → second < end → misses_tick s.fault first ≡ true →
+      misses_tick s.fault second ≡ true → first < second → (first + miss_spacing_of s.cal.times ≤ second) × (1 ≤ s.cal.times.weights.down)
+
+-- so it is by misses that lie far enough apart
+pub spaced_spares : (s : Setting) (start end : ℕ) → IsSpacedLapse s start end → SparesVerdicts s start end
+spaced_spares s start end lapse = record {
+  lapse = lapse.lapse;
+  most = 2;
+  some = omega arith;
+  small = omega arith;
+  few = lapse.has.two_are_few;
+  sent = λ tick before out place. refl;
+  apart = λ first second from before one two less. (lapse.spaced first second from before one two less, lapse.has.some_taken);
+}
 
 -- a miss before tick `now` of a history that begins at tick `start`: the verdicts from period `settled` on are right
 -- again, and the send tick before that comes no more than a period after the miss
@@ -42,14 +67,14 @@ pub record Miss (s : Setting) (start settled now : ℕ) : Type 0 where
 
 -- What is so after each tick by which no trip has come: q periods have a verdict, and n ticks came since. The verdicts
 -- from period `from` up to `settled` may be wrong.
-pub record Recovering (s : Setting) (start : ℕ) (h : List Tick) : Type 0 where
+pub record Recovering (s : Setting) (most start : ℕ) (h : List Tick) : Type 0 where
   pub q : ℕ
   pub n : ℕ
   pub from : ℕ
   pub settled : ℕ
   pub at : length h ≡ q * s.cal.times.period + n
   pub room : n < s.cal.times.period
-  pub weighs : Weighs s.cal.times.weights q from settled (wrongs (moments_of s h))
+  pub weighs : Weighs s.cal.times.weights most q from settled (wrongs (moments_of s h))
   pub sent : q < from → s.cal.times.send < n
   pub whole : settled * s.cal.times.period + s.cal.times.send < length h + s.cal.times.period →
       whole_since_answer (moments_of s h) ≡ true
@@ -59,10 +84,10 @@ pub record Recovering (s : Setting) (start : ℕ) (h : List Tick) : Type 0 where
   pub closed : latch2 (moments_of s h) ≡ false
 
 -- the same of the tick x after h, before its verdict
-record Goes (s : Setting) (start : ℕ) (x : Tick) (h : List Tick) (q n from settled : ℕ) : Type 0 where
+record Goes (s : Setting) (most start : ℕ) (x : Tick) (h : List Tick) (q n from settled : ℕ) : Type 0 where
   pub judged : x.effects.wild ≡ None
   pub opens : x.effects.opens ≡ false
-  pub weighs : Weighs s.cal.times.weights q from settled (wrongs (moments_of s h))
+  pub weighs : Weighs s.cal.times.weights most q from settled (wrongs (moments_of s h))
   pub sent : q < from → s.cal.times.send < suc n
   pub whole : settled * s.cal.times.period + s.cal.times.send < suc (length h) + s.cal.times.period →
       whole_since_answer (moment s x.effects x.entry (moments_of s h) ∷ moments_of s h) ≡ true
@@ -79,9 +104,9 @@ one_whole : (times : TimeParts) (q n : ℕ) → times.send < suc n →
     one_answer times q (suc n) ≡ right_answer times q ∷ []
 one_whole times q n l = rw (lt-ltb times.send (suc n) l) refl
 
-module _ (s : Setting) (accepted : IsAccepted s.cal) (few : 2 * s.cal.times.weights.up < s.cal.times.weights.limit) (start : ℕ)
+module _ (s : Setting) (accepted : IsAccepted s.cal) (most : ℕ) (few : most * s.cal.times.weights.up < s.cal.times.weights.limit) (start : ℕ)
     (x : Tick) (h : List Tick) (q n from settled : ℕ) (at : length h ≡ q * s.cal.times.period + n) (room : n < s.cal.times.period)
-    (goes : Goes s start x h q n from settled) (quiet : is_confirmed s.cal.times.weights (wrongs (moments_of s h)) ≡ false)
+    (goes : Goes s most start x h q n from settled) (quiet : is_confirmed s.cal.times.weights (wrongs (moments_of s h)) ≡ false)
     (closed : latch2 (moments_of s h) ≡ false) where
   abbrev times : TimeParts
   times = s.cal.times
@@ -104,7 +129,7 @@ module _ (s : Setting) (accepted : IsAccepted s.cal) (few : 2 * s.cal.times.weig
   opens_none = (fields s x.effects x.entry past).opens ∙ goes.opens
 
   -- one that has none
-  go_on : suc n < times.period → Recovering s start (x ∷ h)
+  go_on : suc n < times.period → Recovering s most start (x ∷ h)
   unfolding moments_of
   go_on more = record {
     q = q;
@@ -113,7 +138,7 @@ module _ (s : Setting) (accepted : IsAccepted s.cal) (few : 2 * s.cal.times.weig
     settled = settled;
     at = omega (arith, at);
     room = more;
-    weighs = subst (Weighs times.weights q from settled) (sym same) goes.weighs;
+    weighs = subst (Weighs times.weights most q from settled) (sym same) goes.weighs;
     sent = goes.sent;
     whole = goes.whole;
     answers = answers_now;
@@ -139,7 +164,7 @@ module _ (s : Setting) (accepted : IsAccepted s.cal) (few : 2 * s.cal.times.weig
       unconfirmed = (fields s x.effects x.entry past).confirms ∙ ap (λ v. confirms_at times v past) none ∙ (unfold confirms_at in refl)
 
   -- one that closes a period
-  close : suc n ≡ times.period → Recovering s start (x ∷ h)
+  close : suc n ≡ times.period → Recovering s most start (x ∷ h)
   unfolding moments_of
   close whole = record {
     q = q + 1;
@@ -148,7 +173,7 @@ module _ (s : Setting) (accepted : IsAccepted s.cal) (few : 2 * s.cal.times.weig
     settled = settled;
     at = ends (length h) at whole;
     room = period_least times accepted.times;
-    weighs = subst (Weighs times.weights (q + 1) from settled) (sym bits) weighs;
+    weighs = subst (Weighs times.weights most (q + 1) from settled) (sym bits) weighs;
     sent = λ l. absurd (omega (arith, l, goes.weighs.near));
     whole = goes.whole;
     answers = λ right. (unfold answers_in in no_answers times (q + 1));
@@ -189,11 +214,11 @@ module _ (s : Setting) (accepted : IsAccepted s.cal) (few : 2 * s.cal.times.weig
           less : times.period - 1 ≡ n
           less = omega (arith, whole)
 
-      weighs : Weighs times.weights (q + 1) from settled (wrong ∷ wrongs past)
-      weighs = weighs_more times.weights q from settled (wrongs past) wrong right goes.weighs
+      weighs : Weighs times.weights most (q + 1) from settled (wrong ∷ wrongs past)
+      weighs = weighs_more times.weights most q from settled (wrongs past) wrong right goes.weighs
 
       low : is_reached times.weights (wrong ∷ wrongs past) ≡ false
-      low = never_reached times.weights (q + 1) from settled (wrong ∷ wrongs past) few goes.weighs.near weighs
+      low = never_reached times.weights most (q + 1) from settled (wrong ∷ wrongs past) few goes.weighs.near weighs
 
       unconfirmed : now.confirms ≡ false
       unconfirmed = (fields s x.effects x.entry past).confirms ∙ ap (λ v. confirms_at times v past) told ∙ not_yet
@@ -201,7 +226,7 @@ module _ (s : Setting) (accepted : IsAccepted s.cal) (few : 2 * s.cal.times.weig
           not_yet : confirms_at times (Some (verdict_of times these)) past ≡ false
           not_yet = unfold confirms_at wrongs is_first in and_left _ _ low
 
-  one_more : Recovering s start (x ∷ h)
+  one_more : Recovering s most start (x ∷ h)
   one_more = elim (cases_lt (suc n) times.period) [
     | inl more ↦ go_on more
     | inr whole ↦ close (omega (arith, whole, room))
@@ -231,14 +256,14 @@ miss_later s start settled now (inr miss) = inr (record {
 })
 
 -- behind the send tick no answer comes
-absent_answer : (s : Setting) → AreTimes s.cal.times → {start : ℕ} (h : List Tick) (r : Recovering s start h) (mark : AnswerMark) →
+absent_answer : (s : Setting) → AreTimes s.cal.times → {most start : ℕ} (h : List Tick) (r : Recovering s most start h) (mark : AnswerMark) →
     answers_in (take r.n (moments_of s h)) ≡ one_answer s.cal.times r.q r.n → s.cal.times.send < r.n → mark ≡ Absent →
     with_answer (length h) mark (answers_in (take r.n (moments_of s h))) ≡ one_answer s.cal.times r.q (suc r.n)
 unfolding with_answer
 absent_answer s are h r mark one late absent = ap (λ m. with_answer (length h) m (answers_in (take r.n (moments_of s h)))) absent
     ∙ one ∙ rw (lt-ltb s.cal.times.send r.n late, lt-ltb s.cal.times.send (suc r.n) (omega (arith, late))) refl
 
-module _ (s : Setting) (are : AreTimes s.cal.times) (start : ℕ) (e : Entry) (h : List Tick) (r : Recovering s start h)
+module _ (s : Setting) (are : AreTimes s.cal.times) (most start : ℕ) (e : Entry) (h : List Tick) (r : Recovering s most start h)
     (untripped : tripped (moments_of s h) ≡ false)
     (calm : (moment s no_effects e (moments_of s h)).trip ≡ false) where
   abbrev before_plain : List Moment
@@ -285,7 +310,7 @@ module _ (s : Setting) (are : AreTimes s.cal.times) (start : ℕ) (e : Entry) (h
           ∙ ap (λ t. t == s.cal.times.send) (mod-mul-add r.q s.cal.times.period r.n r.room)
           ∙ ne_eqb r.n s.cal.times.send (λ same. omega (arith, same, late)))
 
-  plain_goes : Goes s start (plain e) h r.q r.n r.from r.settled
+  plain_goes : Goes s most start (plain e) h r.q r.n r.from r.settled
   plain_goes = record {
     judged = unfold no_effects in refl;
     opens = unfold no_effects in refl;
@@ -313,7 +338,7 @@ far_apart m t q n send settled period most next at apart settles room inside upt
     ]
 
 module _ (s : Setting) (accepted : IsAccepted s.cal) (start : ℕ) (e : Entry) (h : List Tick)
-    (lapse : IsSpacedLapse s start (start + suc (length h))) (r : Recovering s start h) (counts : misses_tick s.fault (start + length h) ≡ true) where
+    (lapse : SparesVerdicts s start (start + suc (length h))) (r : Recovering s lapse.most start h) (counts : misses_tick s.fault (start + length h) ≡ true) where
   -- the period of the first verdict that the miss may spoil, and of the first after those
   next : ℕ
   next = if nat_lt s.cal.times.send r.n then r.q + 1 else r.q
@@ -337,14 +362,18 @@ module _ (s : Setting) (accepted : IsAccepted s.cal) (start : ℕ) (e : Entry) (
   unfolding settles
   settles_from l = ap (λ b. if b then r.q + 1 else r.q + 2) (le-ltb _ _ l)
 
+  distance : (miss : Miss s start r.settled (length h)) →
+      (start + miss.tick + miss_spacing_of s.cal.times ≤ start + length h) × (1 ≤ s.cal.times.weights.down)
+  distance miss = lapse.apart (start + miss.tick) (start + length h) (omega arith) (omega arith) miss.counts counts
+      (let e = miss.earlier in omega (arith, e))
+
   apart : Miss s start r.settled (length h) → r.settled + periods_between_misses s.cal.times ≤ next + 1
   unfolding miss_spacing_of
   apart miss = far_apart miss.tick (length h) r.q r.n s.cal.times.send r.settled s.cal.times.period (periods_between_misses s.cal.times) next
       r.at far miss.settles r.room (send_within s.cal.times accepted.times) next_upto next_behind
     where
       far : miss.tick + (periods_between_misses s.cal.times * s.cal.times.period + 1) ≤ length h
-      far = let l = lapse.spaced (start + miss.tick) (start + length h) (omega arith) (omega arith) miss.counts counts (let e = miss.earlier in omega (arith, e)) in
-          omega (arith, l)
+      far = let l = (distance miss).0 in omega (arith, l)
 
   next_from : r.q ≤ next
   next_from = elim (cases_lt s.cal.times.send r.n) [
@@ -364,16 +393,24 @@ module _ (s : Setting) (accepted : IsAccepted s.cal) (start : ℕ) (e : Entry) (
     | inr l ↦ (let e = settles_from l in let f = next_near in omega (arith, e, f))
   ]
 
-  settles_near : settles ≤ r.q + 2
+  -- at the send tick two verdicts may be spoiled
+  settles_near : settles ≤ next + lapse.most
   settles_near = elim (cases_lt r.n s.cal.times.send) [
-    | inl l ↦ (let e = settles_before l in omega (arith, e))
-    | inr l ↦ (let e = settles_from l in omega (arith, e))
+    | inl l ↦ (let e = settles_before l in let f = next_upto (omega (arith, l)) in let m = lapse.some in omega (arith, e, f, m))
+    | inr l ↦ elim (cases_lt s.cal.times.send r.n) [
+      | inl late ↦ (let e = settles_from l in let f = next_behind late in let m = lapse.some in omega (arith, e, f, m))
+      | inr at ↦ (let e = settles_from l in let f = next_upto at in
+          let m : lapse.most ≡ 2 = lapse.sent (length h) (omega arith) counts (place (omega (arith, l, at))) in omega (arith, e, f, m))
+    ]
   ]
+    where
+      place : r.n ≡ s.cal.times.send → length h % s.cal.times.period ≡ s.cal.times.send
+      place same = ap (λ t. t % s.cal.times.period) r.at ∙ mod-mul-add r.q s.cal.times.period r.n r.room ∙ same
 
   nothing_left : greatest s.cal.times.weights (wrongs (moments_of s h)) ≤ (next - r.q) * s.cal.times.weights.down
   nothing_left = elim r.last [
     | inl none ↦ (let z = r.weighs.none none in omega (arith, z))
-    | inr miss ↦ taken_back s.cal.times r.q r.from r.settled next (wrongs (moments_of s h)) lapse.has.some_taken
+    | inr miss ↦ taken_back s.cal.times lapse.most r.q r.from r.settled next (wrongs (moments_of s h)) lapse.small (distance miss).1
         (let a = accepted.answers.0 in omega (arith, a)) (apart miss) next_from next_near r.weighs
   ]
 
@@ -384,7 +421,7 @@ module _ (s : Setting) (accepted : IsAccepted s.cal) (start : ℕ) (e : Entry) (
     | inl none ↦ omega (arith, none)
     | inr miss ↦ (let a = apart miss in let n = next_near in
         let p = quotient_positive (2 * s.cal.times.weights.up) s.cal.times.weights.down
-        (let u = accepted.answers.0 in omega (arith, u)) (let d = lapse.has.some_taken in omega (arith, d)) in omega (arith, a, n, p))
+        (let u = accepted.answers.0 in omega (arith, u)) (let d = (distance miss).1 in omega (arith, d)) in omega (arith, a, n, p))
   ]
 
   missed_mark : (moment s missed e (moments_of s h)).mark ≡ Absent
@@ -393,11 +430,11 @@ module _ (s : Setting) (accepted : IsAccepted s.cal) (start : ℕ) (e : Entry) (
       none : mark_at s.cal.times missed (moment s missed e (moments_of s h)).trip (moments_of s h) ≡ Absent
       none = unfold mark_at is_sent missed no_effects in rw (and_right (sends_at missed s.cal.times (length (moments_of s h))) false refl) refl
 
-  missed_goes : Goes s start (record { effects = missed; entry = e }) h r.q r.n next settles
+  missed_goes : Goes s lapse.most start (record { effects = missed; entry = e }) h r.q r.n next settles
   missed_goes = record {
     judged = unfold missed no_effects in refl;
     opens = unfold missed no_effects in refl;
-    weighs = weighs_anew s.cal.times.weights r.q next settles (wrongs (moments_of s h)) next_from next_near settles_some settles_near nothing_left;
+    weighs = weighs_anew s.cal.times.weights lapse.most r.q next settles (wrongs (moments_of s h)) next_from next_near settles_some settles_near nothing_left;
     sent = λ early. (let l = behind early in omega (arith, l));
     whole = λ late. absurd (not_yet late);
     answers = λ right. elim right [
@@ -430,16 +467,16 @@ module _ (s : Setting) (accepted : IsAccepted s.cal) (start : ℕ) (e : Entry) (
 
 -- ---- all ticks ----
 
-recovers_at_first : (s : Setting) → AreTimes s.cal.times → (start : ℕ) → Recovering s start []
+recovers_at_first : (s : Setting) → AreTimes s.cal.times → (most start : ℕ) → Recovering s most start []
 unfolding moments_of wrongs verdicts_in is_confirmed latch2 whole_since_answer answers_in
-recovers_at_first s are start = record {
+recovers_at_first s are most start = record {
   q = 0;
   n = 0;
   from = 0;
   settled = 0;
   at = omega arith;
   room = period_least s.cal.times are;
-  weighs = weighs_at_first s.cal.times.weights;
+  weighs = weighs_at_first s.cal.times.weights most;
   sent = λ l. absurd (omega (arith, l));
   whole = λ late. refl;
   answers = λ right. no_answers s.cal.times 0;
@@ -449,20 +486,20 @@ recovers_at_first s are start = record {
 }
 
 recovers_more : (s : Setting) → IsAccepted s.cal → (start : ℕ) (x : Tick) (h : List Tick) →
-    IsSpacedLapse s start (start + suc (length h)) → x.effects ≡ effects s.fault (start + length h) → tripped (moments_of s h) ≡ false →
-    (moment s x.effects x.entry (moments_of s h)).trip ≡ false → Recovering s start h → Recovering s start (x ∷ h)
+    (lapse : SparesVerdicts s start (start + suc (length h))) → x.effects ≡ effects s.fault (start + length h) → tripped (moments_of s h) ≡ false →
+    (moment s x.effects x.entry (moments_of s h)).trip ≡ false → Recovering s lapse.most start h → Recovering s lapse.most start (x ∷ h)
 recovers_more s accepted start x h lapse is untripped calm r = elim (lapse_tick s.fault lapse.lapse (start + length h)) [
-  | inl none ↦ goes_on r.from r.settled (as_tick (λ y. Goes s start y h r.q r.n r.from r.settled) x no_effects (is ∙ none)
-      (plain_goes s accepted.times start x.entry h r untripped
+  | inl none ↦ goes_on r.from r.settled (as_tick (λ y. Goes s lapse.most start y h r.q r.n r.from r.settled) x no_effects (is ∙ none)
+      (plain_goes s accepted.times lapse.most start x.entry h r untripped
       (to_tick (λ y. (moment s y.effects y.entry (moments_of s h)).trip ≡ false) x no_effects (is ∙ none) calm)))
   | inr out ↦ (let miss = counts_as_missed s.fault (start + length h) out in
       let from = next s accepted start x.entry h lapse r miss in let settled = settles s accepted start x.entry h lapse r miss in
-      goes_on from settled (as_tick (λ y. Goes s start y h r.q r.n from settled) x missed (is ∙ out)
+      goes_on from settled (as_tick (λ y. Goes s lapse.most start y h r.q r.n from settled) x missed (is ∙ out)
       (missed_goes s accepted start x.entry h lapse r miss)))
 ]
   where
-    goes_on : (from settled : ℕ) → Goes s start x h r.q r.n from settled → Recovering s start (x ∷ h)
-    goes_on from settled goes = one_more s accepted lapse.has.two_are_few start x h r.q r.n from settled r.at r.room goes r.quiet r.closed
+    goes_on : (from settled : ℕ) → Goes s lapse.most start x h r.q r.n from settled → Recovering s lapse.most start (x ∷ h)
+    goes_on from settled goes = one_more s accepted lapse.most lapse.few start x h r.q r.n from settled r.at r.room goes r.quiet r.closed
 
 calm_now : (m : Moment) (past : List Moment) → tripped (m ∷ past) ≡ false → m.trip ≡ false
 unfolding tripped
@@ -476,11 +513,28 @@ spaced_up_to s start end earlier l lapse = record {
   spaced = λ first second from before. lapse.spaced first second from (omega arith);
 }
 
-pub recovering : (s : Setting) → IsAccepted s.cal → (start : ℕ) (h : List Tick) → IsSpacedLapse s start (start + length h) →
-    Follows s.fault start h → tripped (moments_of s h) ≡ false → Recovering s start h
+-- so does a part of what is spared
+spares_up_to : (s : Setting) (start end earlier : ℕ) → earlier ≤ end → (lapse : SparesVerdicts s start end) →
+    (part : SparesVerdicts s start earlier) × (part.most ≡ lapse.most)
+spares_up_to s start end earlier l lapse = (
+  record {
+    lapse = lapse.lapse;
+    most = lapse.most;
+    some = lapse.some;
+    small = lapse.small;
+    few = lapse.few;
+    sent = λ tick before. lapse.sent tick (omega (arith, before, l));
+    apart = λ first second from before. lapse.apart first second from (omega (arith, before, l));
+  },
+  refl,
+)
+
+pub recovering : (s : Setting) → IsAccepted s.cal → (start : ℕ) (h : List Tick) (lapse : SparesVerdicts s start (start + length h)) →
+    Follows s.fault start h → tripped (moments_of s h) ≡ false → Recovering s lapse.most start h
 unfolding Follows moments_of
-recovering s accepted start [] lapse follows untripped = recovers_at_first s accepted.times start
+recovering s accepted start [] lapse follows untripped = recovers_at_first s accepted.times lapse.most start
 recovering s accepted start (x ∷ h) lapse follows untripped =
     let before = untripped_before (moment s x.effects x.entry (moments_of s h)) (moments_of s h) untripped in
+    let part = spares_up_to s start (start + suc (length h)) (start + length h) (omega arith) lapse in
     recovers_more s accepted start x h lapse follows.0 before (calm_now _ (moments_of s h) untripped)
-    (recovering s accepted start h (spaced_up_to s start (start + suc (length h)) (start + length h) (omega arith) lapse) follows.1 before)
+    (subst (λ n. Recovering s n start h) part.1 (recovering s accepted start h part.0 follows.1 before))

@@ -1,6 +1,6 @@
 -- No stretch of excess under lapses is longer than `longest_missed` says: what level 2's runs in it leave to wrong
 -- verdicts.
-use Rattle.std.proofs.Common.{inl, inr, ◌⊎◌, ◌≡◌, ℕ, zero, suc, ◌+◌, ◌-◌, ◌*◌, ◌/◌, ◌%◌, ◌≤◌, ◌<◌, Bool, true, false, not, List, [], ◌∷◌, ◌++◌, length, length-append, append_assoc, take, refl, sym, ap, ◌∙◌, subst, arith}
+use Rattle.std.proofs.Common.{inl, inr, ◌⊎◌, ◌≡◌, ℕ, zero, suc, ◌+◌, ◌-◌, ◌*◌, ◌/◌, ◌%◌, ◌≤◌, ◌<◌, true, false, not, List, [], ◌∷◌, ◌++◌, length, length-append, append_assoc, take, refl, sym, ap, ◌∙◌, subst, arith}
 use Rattle.std.specs.Prelude.{if◌then◌else◌}
 use Rattle.std.specs.List.{count_by}
 use Rattle.std.proofs.lemmas.Nat.{le-div}
@@ -8,7 +8,7 @@ use Rattle.std.proofs.lemmas.Bool.{cases_lt, cases_Bool, true≢false, and_parts
 use Rattle.eg_num.specs.Windows.{is_confirmed}
 use Rattle.eg_torque.specs.declared.ramp.TheConstants.{NO_RAMP}
 use Rattle.eg_answer.specs.Times.{feeds_to_confirm, reaction_of, rights_between, most_wrong, further_ticks, longest_missed_of}
-use Rattle.eg_values.specs.Calibration.{CalibrationParts, IsAccepted}
+use Rattle.eg_values.specs.Calibration.{IsAccepted}
 use Rattle.eg_values.specs.Excess.{BoundsMissed, longest_missed}
 use Rattle.eg_fault.specs.declared.paths.TheConstants.{PATH_2}
 use Rattle.eg_record.specs.Excess.{true_excess}

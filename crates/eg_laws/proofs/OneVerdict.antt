@@ -1,12 +1,11 @@
 -- Where one wrong verdict confirms, the first tick that level 2 misses in a span is cut soon, whatever the torque.
-use Rattle.std.proofs.Common.{inl, inr, ◌⊎◌, ◌≡◌, ◌≢◌, ℕ, zero, suc, ◌+◌, ◌-◌, ◌*◌, ◌/◌, ◌%◌, ◌≤◌, ◌<◌, true, false, ◌||◌, List, [], ◌∷◌, ◌++◌, length, length-append, refl, sym, ap, ◌∙◌, subst, arith}
+use Rattle.std.proofs.Common.{inl, inr, ◌≡◌, ◌≢◌, ℕ, ◌+◌, ◌-◌, ◌*◌, ◌/◌, ◌%◌, ◌≤◌, ◌<◌, true, ◌||◌, List, [], ◌∷◌, ◌++◌, length, length-append, sym, ap, ◌∙◌, subst, arith}
 use Rattle.std.proofs.lemmas.Bool.{cases_lt}
 use Rattle.std.proofs.lemmas.Nat.{div-mul-add}
 use Rattle.eg_num.specs.Windows.{is_confirmed}
 use Rattle.eg_answer.specs.Times.{TimeParts, AreTimes, feeds_to_confirm, reaction_of}
 use Rattle.eg_answer.specs.declared.marks.AnswerMark.TheVariants.{Absent, Good}
 use Rattle.eg_values.specs.Calibration.{IsAccepted}
-use Rattle.eg_fault.specs.Faults.{effects}
 use Rattle.eg_fault.specs.Classes.{IsRegular}
 use Rattle.eg_model.specs.History.{Setting, Tick, Drive, Moment}
 use Rattle.eg_model.specs.Answers.{is_whole, whole_since_answer, mark_at}
@@ -18,7 +17,7 @@ use Rattle.eg_laws.specs.Availability.{misses_tick}
 use Rattle.eg_model.proofs.TickLemmas.{stays, length-moments, fields}
 use Rattle.eg_model.proofs.ClassLemmas.{of_history}
 use Rattle.eg_model.proofs.PeriodLemmas.{counts_from}
-use Rattle.eg_model.proofs.Silence.{AreRegular, NoGood, TrueRun, closed, wrongs, wrong_run, run_confirms, enough_weight, opens_when_confirmed, sent_at_place, period_least, send_within}
+use Rattle.eg_model.proofs.Silence.{NoGood, TrueRun, closed, wrongs, wrong_run, run_confirms, enough_weight, opens_when_confirmed, sent_at_place, period_least, send_within}
 use Rattle.eg_model.proofs.LapseAnswers.{is_good_mark, whole_where_good}
 use Rattle.eg_model.proofs.SpanRows.{EndOf, end_of, follows-end}
 use Rattle.eg_laws.proofs.MissedTickLaws.{lapse_regular, apart, not_whole, stale}
