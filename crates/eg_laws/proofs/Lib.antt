@@ -13,6 +13,7 @@ pub mod MissWeights
 pub mod MissTicks
 pub mod SingleMisses
 pub mod MissVerdicts
+pub mod SilentMisses
 pub mod TripRows
 pub mod PairsFoundLaws
 pub mod SharpUnderLaws

@@ -97,10 +97,10 @@ record Goes (s : Setting) (most start : ℕ) (x : Tick) (h : List Tick) (q n fro
 
 -- ---- the verdict of a tick ----
 
-no_answers : (times : TimeParts) (q : ℕ) → [] ≡ one_answer times q 0
+pub no_answers : (times : TimeParts) (q : ℕ) → [] ≡ one_answer times q 0
 no_answers times q = rw (le-ltb times.send 0 (omega arith)) refl
 
-one_whole : (times : TimeParts) (q n : ℕ) → times.send < suc n →
+pub one_whole : (times : TimeParts) (q n : ℕ) → times.send < suc n →
     one_answer times q (suc n) ≡ right_answer times q ∷ []
 one_whole times q n l = rw (lt-ltb times.send (suc n) l) refl
 
@@ -323,6 +323,13 @@ module _ (s : Setting) (are : AreTimes s.cal.times) (most start : ℕ) (e : Entr
 
 -- ---- a tick that it misses ----
 
+-- no answer is sent at it
+pub missed_absent : (s : Setting) (e : Entry) (past : List Moment) → (moment s missed e past).mark ≡ Absent
+missed_absent s e past = (fields s missed e past).mark ∙ none
+  where
+    none : mark_at s.cal.times missed (moment s missed e past).trip past ≡ Absent
+    none = unfold mark_at is_sent missed no_effects in rw (and_right (sends_at missed s.cal.times (length past)) false refl) refl
+
 -- Where a miss comes in period q, and the one before settled at `settled`: so many periods lie between.
 far_apart : (m t q n send settled period most next : ℕ) → t ≡ q * period + n → m + (most * period + 1) ≤ t →
     settled * period + send ≤ m + 2 * period → n < period → send < period → (n ≤ send → next ≡ q) → (send < n → next ≡ q + 1) → settled + most ≤ next + 1
@@ -424,12 +431,6 @@ module _ (s : Setting) (accepted : IsAccepted s.cal) (start : ℕ) (e : Entry) (
         (let u = accepted.answers.0 in omega (arith, u)) (let d = (distance miss).1 in omega (arith, d)) in omega (arith, a, n, p))
   ]
 
-  missed_mark : (moment s missed e (moments_of s h)).mark ≡ Absent
-  missed_mark = (fields s missed e (moments_of s h)).mark ∙ none
-    where
-      none : mark_at s.cal.times missed (moment s missed e (moments_of s h)).trip (moments_of s h) ≡ Absent
-      none = unfold mark_at is_sent missed no_effects in rw (and_right (sends_at missed s.cal.times (length (moments_of s h))) false refl) refl
-
   missed_goes : Goes s lapse.most start (record { effects = missed; entry = e }) h r.q r.n next settles
   missed_goes = record {
     judged = unfold missed no_effects in refl;
@@ -438,7 +439,7 @@ module _ (s : Setting) (accepted : IsAccepted s.cal) (start : ℕ) (e : Entry) (
     sent = λ early. (let l = behind early in omega (arith, l));
     whole = λ late. absurd (not_yet late);
     answers = λ right. elim right [
-      | inl early ↦ absent_answer s accepted.times h r (moment s missed e (moments_of s h)).mark (r.answers (inr settled_before)) (behind early) missed_mark
+      | inl early ↦ absent_answer s accepted.times h r (moment s missed e (moments_of s h)).mark (r.answers (inr settled_before)) (behind early) (missed_absent s e (moments_of s h))
       | inr past ↦ absurd (let a = settles_some in let b = next_from in omega (arith, past, a, b))
     ];
     last = inr (record {
@@ -501,7 +502,7 @@ recovers_more s accepted start x h lapse is untripped calm r = elim (lapse_tick 
     goes_on : (from settled : ℕ) → Goes s lapse.most start x h r.q r.n from settled → Recovering s lapse.most start (x ∷ h)
     goes_on from settled goes = one_more s accepted lapse.most lapse.few start x h r.q r.n from settled r.at r.room goes r.quiet r.closed
 
-calm_now : (m : Moment) (past : List Moment) → tripped (m ∷ past) ≡ false → m.trip ≡ false
+pub calm_now : (m : Moment) (past : List Moment) → tripped (m ∷ past) ≡ false → m.trip ≡ false
 unfolding tripped
 calm_now m past u = (or_parts m.trip (tripped past) u).0
 

@@ -344,7 +344,7 @@ missed_ends s accepted bounds lapse start h follows proper zero exceed = omega a
 missed_ends s accepted bounds lapse start [] follows proper (suc m) exceed = absurd (let w = exceed.within in omega (arith, w))
 missed_ends s accepted bounds lapse start (x ∷ h) follows proper (suc m) exceed = elim (cases_Bool now.on) [
   | inr off ↦ absurd (off_no_excess s x past proper.0 off (and_parts _ _ exceed.each).0)
-  | inl on ↦ (let e : m + 1 ≤ longest_missed s.cal = by on bounds (and_parts _ _ exceed.each).1 in omega (arith, e))
+  | inl on ↦ fits (by on bounds (and_parts _ _ exceed.each).1)
 ]
   where
     past : List Moment
@@ -355,6 +355,9 @@ missed_ends s accepted bounds lapse start (x ∷ h) follows proper (suc m) excee
 
     within : m ≤ length h
     within = let w = exceed.within in omega (arith, w)
+
+    fits : m + 1 ≤ longest_missed s.cal → suc m < longest_missed s.cal + 1
+    fits e = omega (arith, e)
 
     each : AllOrNoneEach h
     each = lapsing_history s lapse start h follows.1
