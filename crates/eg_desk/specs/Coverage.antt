@@ -44,7 +44,8 @@ lapse_off (Some longest) = Excess (longest + 1)
 -- a lapse is found where one wrong verdict confirms; else it can stay hidden
 unfoldable pub lapse_numbers : CoverageTicks → CoverageRow
 lapse_numbers ticks =
-    if ticks.verdicts == 1 then found ticks.reaction (After ticks.reaction) else unfound (lapse_off ticks.missed)
+    if ticks.verdicts == 1 then found ticks.reaction (After ticks.reaction)
+    else unfound (lapse_off ticks.missed)
 
 -- the numbers of the row of a case
 unfoldable pub numbers_of : CoverageTicks → CoverageCase → CoverageRow

@@ -114,8 +114,8 @@ CutsOrdered fault n start rows =
     rows ≡ later ++ row ∷ (between ++ ordered ∷ before) →
     (effects (Some fault) ordered.tick).opens ≡ true → n ≤ length between + 1 → row.on ≡ false
 
--- Of a drive span: after each tick of it that level 2 misses, `answers` was found before each row from n ticks
--- on; and the stages are off at these rows.
+-- Of a drive span: after each tick of it that level 2 misses, `answers` was found before each row from n
+-- ticks on; and the stages are off at these rows.
 abbrev pub FindsMisses : Fault → (n start : ℕ) → List Row → Type 0
 FindsMisses fault n start rows =
     (tick : ℕ) → start ≤ tick → misses_tick (Some fault) tick ≡ true → FindsAnswersWithin tick n start rows
@@ -230,7 +230,8 @@ MeansMissed cal (Excess n) = OfRuns cal (is_of name.Lapse) (λ s fault rows.
 MeansMissed cal Never = ¬ BoundsMissed cal
 MeansMissed cal _ = ⊥
 
--- a lapse can stay hidden: one of one tick that isn't a send tick does, and so do those whose misses lie far apart
+-- a lapse can stay hidden: one of one tick that isn't a send tick does, and so do those whose misses lie far
+-- apart
 abbrev pub MeansHiddenLapse : CalibrationParts → CoverageRow → Type 0
 MeansHiddenLapse cal row =
     (row.within ≡ None) × HiddenIn row.hidden (OneMissStays cal × FarMissesStay) × MeansMissed cal row.off

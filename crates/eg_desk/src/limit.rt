@@ -1,5 +1,5 @@
 // What a calibration comes to.
-ghost use Rattle.std.specs.Prelude.{◌<◌, SomeIff, IfSome};
+ghost use Rattle.std.specs.Prelude.{◌<◌, ◌↔◌, IsTrue, SomeIff, IfSome};
 ghost use Rattle.eg_answer.specs.Times.{lapse_bound_of};
 ghost use Rattle.eg_values.specs.Excess.{BoundsLapses, BoundsMissed, longest_missed};
 ghost use Rattle.eg_desk.specs.Limits.{AreLimits};
@@ -72,17 +72,25 @@ pub(crate) fn lapse_of(calibration: &Calibration) -> Option<u32>
     lapse_bound(&rules.torque, calibration.times())
 }
 
-/// How many ticks in a row an excess lasts at the most under lapses, if the calibration bounds it: without a
-/// ramp, with one that never comes down, or where one wrong verdict confirms (docs/CONCEPT.md, "Lapses").
+/// How many ticks in a row an excess lasts at the most under lapses, if the calibration bounds it
+/// (docs/CONCEPT.md, "Lapses").
 pub(crate) fn missed_of(calibration: &Calibration) -> Option<u32>
     ensures longest { SomeIff result (BoundsMissed calibration.now) (longest_missed calibration.now) }
     ensures within { IfSome result (λ ticks. ticks < 200000000) }
 {
-    let rules = calibration.rules();
-    let times = calibration.times();
-    let verdicts = feeds_to_confirm(times.weights());
-    if rules.fall != NO_RAMP && rules.fall != 0 && verdicts != 1 {
-        return None;
+    if bounds_missed(calibration) {
+        Some(longest_missed(&calibration.rules().torque, calibration.times()))
+    } else {
+        None
     }
-    Some(longest_missed(&rules.torque, times))
+}
+
+/// Whether the calibration bounds how long an excess lasts under lapses: without a ramp, with one that never
+/// comes down, or where one wrong verdict confirms.
+fn bounds_missed(calibration: &Calibration) -> bool
+    ensures { IsTrue result ↔ BoundsMissed calibration.now }
+{
+    let fall = calibration.rules().fall;
+    let verdicts = feeds_to_confirm(calibration.times().weights());
+    fall == NO_RAMP || fall == 0 || verdicts == 1
 }

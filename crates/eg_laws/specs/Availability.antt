@@ -70,12 +70,12 @@ missed_ticks fault start zero = 0
 missed_ticks fault start (suc n) =
     (if misses_tick fault (start + n) then 1 else 0) + missed_ticks fault start n
 
--- Nor are they where few ticks are missed in all, wherever these lie: all that they spoil weighs less than the
--- limit.
+-- Nor are they where few ticks are missed in all, wherever these lie: all that they spoil weighs less than
+-- the limit.
 abbrev pub FewMissesKeepPath2 : Type 0
 FewMissesKeepPath2 =
-    (s : Setting) → IsAccepted s.cal → IsLapse s.fault → (start : ℕ) (h : List Tick) → Follows s.fault start h →
-    missed_ticks s.fault start (length h) ≤ silent_misses_of s.cal.times →
+    (s : Setting) → IsAccepted s.cal → IsLapse s.fault → (start : ℕ) (h : List Tick) →
+    Follows s.fault start h → missed_ticks s.fault start (length h) ≤ silent_misses_of s.cal.times →
     tripped (moments_of s h) ≡ false → latch2 (moments_of s h) ≡ false
 
 -- so a trip alone cuts: the stages are on at the tick x after h exactly if none has come by the last of h

@@ -68,8 +68,8 @@ pub record MissesAreCut (s : Setting) (start : ℕ) (rows : List Row) : Type 0 w
   pub found : (tick : ℕ) → start ≤ tick → misses_tick s.fault tick ≡ true → (later before : List Row) →
       rows ≡ later ++ before → start + length before ≡ tick + reaction_of s.cal.times → Finds cutting before
 
--- Of a drive span: path 2 doesn't conduct from R ticks on after a tick of it that level 2 misses. (So `answers`
--- is found by then, and the stages are off.)
+-- Of a drive span: path 2 doesn't conduct from R ticks on after a tick of it that level 2 misses. (So
+-- `answers` is found by then, and the stages are off.)
 abbrev pub MissesOpenPath2 : Setting → (start : ℕ) → List Row → Type 0
 MissesOpenPath2 s start rows =
     (tick : ℕ) → start ≤ tick → misses_tick s.fault tick ≡ true →

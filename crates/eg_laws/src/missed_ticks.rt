@@ -9,8 +9,8 @@ ghost use Rattle.eg_model.specs.Engines.{bench_of};
 /// whatever the torque from R ticks after each missed tick of the span, with a watch that cuts found by then.
 /// So it is by each lapse whose count begins anew at least once a period. Where level 2 never runs again they
 /// are off from R ticks after the onset, or after the span's begin if that is later. And where one wrong
-/// verdict confirms, path 2 doesn't conduct from R ticks on after any tick of a drive span that a lapse leaves
-/// out. It does nothing when it runs.
+/// verdict confirms, path 2 doesn't conduct from R ticks on after any tick of a drive span that a lapse
+/// leaves out. It does nothing when it runs.
 pub fn records_cut_misses()
     ensures misses { (engine : EngineKind) → RecordsCutMisses (bench_of engine) }
     ensures for_good { (engine : EngineKind) → RecordsCutForGood (bench_of engine) }
