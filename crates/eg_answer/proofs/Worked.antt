@@ -12,7 +12,7 @@ use Rattle.eg_answer.specs.Feeds.{pedal_feed, plate_feed, load_feed, speed_feed,
 use Rattle.eg_answer.specs.Modules.{modules_before_react, modules}
 use Rattle.eg_answer.specs.Answers.{pedal_result, permitted_result, estimate_result, excess_result, pairs_result, results_of, expected_of, answer_number}
 use Rattle.eg_answer.specs.Token.{next_token_of, token_after}
-use Rattle.eg_answer.specs.Times.{TimeParts, feeds_to_confirm, reaction_of, test_ticks_of, periods_to_confirm, worth_of, rounds_to_confirm, lapse_periods, lapse_bound_of, HasLapseBound, periods_between_misses, miss_spacing_of, HasMissSpacing}
+use Rattle.eg_answer.specs.Times.{TimeParts, feeds_to_confirm, reaction_of, test_ticks_of, periods_to_confirm, worth_of, rounds_to_confirm, lapse_periods, lapse_bound_of, HasLapseBound, rights_between, most_wrong, further_ticks, longest_missed_of, periods_between_misses, miss_spacing_of, silent_misses_of, HasMissSpacing}
 use Rattle.eg_answer.specs.declared.words.TheConstants.{MIRRORED_WORDS, STORED_WORDS}
 use Rattle.eg_answer.specs.declared.rules.Rules.{Rules}
 use Rattle.eg_answer.specs.declared.rules.TestRow.{TestRow}
@@ -21,7 +21,7 @@ use Rattle.eg_answer.specs.declared.rules.TestRow.{TestRow}
 unfoldable answering : ℕ
 unfolding value_at permitted is_excess permitted_torque estimated_torque excess_number disagreeing_pairs mixed fold_of pedal_result permitted_result estimate_result excess_result pairs_result
     results_of expected_of answer_number next_token_of token_after modules_before_react modules feeds_to_confirm reaction_of test_ticks_of
-    periods_to_confirm worth_of rounds_to_confirm lapse_periods lapse_bound_of periods_between_misses miss_spacing_of
+    periods_to_confirm worth_of rounds_to_confirm lapse_periods lapse_bound_of rights_between most_wrong further_ticks longest_missed_of periods_between_misses miss_spacing_of silent_misses_of
 answering = 0
 
 -- pedals 0, 500, 1000; speeds 800, 3000, 6000
@@ -174,18 +174,35 @@ lapse-100 : ¬ HasLapseBound (torque 100) (times 3)
 unfolding answering
 lapse-100 h = absurd (omega (arith, h))
 
--- two wrong verdicts add six of nine: where a right one takes two, three of them and so five periods of seven
--- ticks are enough; where it takes four, two of them are
+-- the longest excess under lapses, with runs that confirm below the period, at it, one above and further above:
+-- twelve leave room for one right verdict, and then a limit of 9 takes four wrong ones (by threes, less 1)
+missed-worked : map (λ runs. longest_missed_of (torque runs) (times 3)) (1 ∷ 5 ∷ 10 ∷ 11 ∷ 12 ∷ 22 ∷ 32 ∷ []) ≡ 34 ∷ 38 ∷ 43 ∷ 44 ∷ 54 ∷ 64 ∷ 74 ∷ []
+unfolding answering
+missed-worked = refl
+
+-- the second bound is the lower one where a right verdict takes much: after two wrong verdicts, and a right one that
+-- takes 100 away, three confirm
+missed-second : longest_missed_of (torque 12) (record { period = 10; first = 2; last = 7; send = 5; weights = record { up = 3; down = 100; limit = 9 } }) ≡ 64
+unfolding answering
+missed-second = refl
+
+-- two wrong verdicts add six of nine: where a right one takes two, three of them and so four periods of seven
+-- ticks and a tick are enough; where it takes four, two of them are
 abbrev sevens : ℕ → TimeParts
 sevens down = record { period = 7; first = 1; last = 4; send = 3; weights = record { up = 3; down = down; limit = 9 } }
 
-spacing-2 : (periods_between_misses (sevens 2)) ∷ miss_spacing_of (sevens 2) ∷ [] ≡ 5 ∷ 35 ∷ []
+spacing-2 : (periods_between_misses (sevens 2)) ∷ miss_spacing_of (sevens 2) ∷ [] ≡ 4 ∷ 29 ∷ []
 unfolding answering
 spacing-2 = refl
 
-spacing-4 : (periods_between_misses (sevens 4)) ∷ miss_spacing_of (sevens 4) ∷ [] ≡ 4 ∷ 28 ∷ []
+spacing-4 : (periods_between_misses (sevens 4)) ∷ miss_spacing_of (sevens 4) ∷ [] ≡ 3 ∷ 22 ∷ []
 unfolding answering
 spacing-4 = refl
+
+-- one miss adds six of nine at the most, and two may add the limit
+silent-2 : silent_misses_of (sevens 2) ≡ 1
+unfolding answering
+silent-2 = refl
 
 -- there is no distance where right verdicts take nothing, and none where two wrong ones add the whole limit
 spacing-0 : ¬ HasMissSpacing (sevens 0)

@@ -1,7 +1,7 @@
 -- The worst-case reaction is a period for each wrong verdict that it takes to confirm, and one more, less the
 -- send tick and 1; the bound for lapses is whole periods. A calibration says how long a period is, when in it
 -- answers are sent and when they may come. The ticks of a period are counted from its begin.
-use Rattle.std.specs.Prelude.{◌≡◌, ℕ, ◌+◌, ◌*◌, ◌-◌, ◌≤◌, ◌<◌}
+use Rattle.std.specs.Prelude.{◌≡◌, ℕ, ◌+◌, ◌*◌, ◌-◌, ◌/◌, ◌≤◌, ◌<◌, min}
 use Rattle.eg_num.specs.Arithmetic.{quotient_up}
 use Rattle.eg_num.specs.Windows.{WeightParts}
 
@@ -70,6 +70,33 @@ lapse_periods torque times = rounds_to_confirm torque times * periods_to_confirm
 unfoldable pub lapse_bound_of : WeightParts → TimeParts → ℕ
 lapse_bound_of torque times = (lapse_periods torque times + 1) * times.period
 
+-- ---- how long an excess may last under lapses ----
+
+-- How many right verdicts may stand between wrong ones while an excess isn't confirmed, which takes fewer
+-- runs of level 2 than confirm it. A right verdict takes a period of runs, and the answer before it, which is
+-- wrong, takes one.
+unfoldable pub rights_between : WeightParts → TimeParts → ℕ
+rights_between torque times = (feeds_to_confirm torque - 2) / times.period
+
+-- With so many right verdicts between them no counter takes more wrong ones, the confirming one counted. Up
+-- to the last one the counter is below the limit, and fewer in a row than confirm stand before each right
+-- one.
+unfoldable pub most_wrong : WeightParts → ℕ → ℕ
+most_wrong w rights =
+    min ((w.limit - 1 + rights * w.down) / w.up + 1)
+    (feeds_to_confirm w + rights * (feeds_to_confirm w - 1))
+
+-- How many ticks the periods have whose verdicts a counter takes as wrong beyond those that confirm in a row.
+unfoldable pub further_ticks : WeightParts → TimeParts → ℕ
+further_ticks torque times =
+    (most_wrong times.weights (rights_between torque times) - feeds_to_confirm times.weights) * times.period
+
+-- Without a ramp no stretch of excess under lapses has more ticks than this: one less than the runs that
+-- confirm, the worst-case reaction, and those further ticks, less 1 if there are any.
+unfoldable pub longest_missed_of : WeightParts → TimeParts → ℕ
+longest_missed_of torque times =
+    feeds_to_confirm torque - 1 + reaction_of times + (further_ticks torque times - 1)
+
 -- ---- missed runs of level 2 after which wrong answers never cut ----
 
 -- There is a distance such that wrong answers never cut before a trip, where missed runs lie at least so far
@@ -79,21 +106,27 @@ pub record HasMissSpacing (times : TimeParts) : Type 0 where
   pub two_are_few : 2 * times.weights.up < times.weights.limit
   pub some_taken : 1 ≤ times.weights.down
 
--- Where two misses lie this many periods apart, the right verdicts between them, all but two, take back what
--- those two add.
+-- Where two misses lie more than this many periods apart, the right verdicts between them, all but one, take
+-- back what the two that a miss spoils add.
 abbrev pub TakesBack : TimeParts → ℕ → Type 0
-TakesBack times periods = 2 * times.weights.up ≤ (periods - 2) * times.weights.down
+TakesBack times periods = 2 * times.weights.up ≤ (periods - 1) * times.weights.down
 
--- the ticks are whole periods, and enough of them to take that back
+-- the ticks are whole periods and one tick more, and enough of them to take that back
 pub record TakesBackWithin (times : TimeParts) (ticks : ℕ) : Type 0 where
   pub periods : ℕ
-  pub are : ticks ≡ periods * times.period
+  pub are : ticks ≡ periods * times.period + 1
   pub enough : TakesBack times periods
 
 -- the least number of periods that take that back
 unfoldable pub periods_between_misses : TimeParts → ℕ
-periods_between_misses times = quotient_up (2 * times.weights.up) times.weights.down + 2
+periods_between_misses times = quotient_up (2 * times.weights.up) times.weights.down + 1
 
--- these periods in ticks: where misses lie at least so far apart, wrong answers never cut before a trip
+-- these periods in ticks, and one tick more: where misses lie at least so far apart, wrong answers never cut
+-- before a trip
 unfoldable pub miss_spacing_of : TimeParts → ℕ
-miss_spacing_of times = periods_between_misses times * times.period
+miss_spacing_of times = periods_between_misses times * times.period + 1
+
+-- So many misses never make wrong answers cut before a trip, wherever they lie: all that they spoil adds less
+-- than the limit.
+unfoldable pub silent_misses_of : TimeParts → ℕ
+silent_misses_of times = (times.weights.limit - 1) / (2 * times.weights.up)

@@ -1,8 +1,8 @@
 // The times of the answers, and what follows from them: the worst-case reaction, the bound for lapses, and
 // the distance of missed runs from which on wrong answers never cut before a trip.
-ghost use Rattle.std.specs.Prelude.{◌≡◌, ℕ, ◌+◌, ◌*◌, ◌≤◌, ◌<◌, SomeIff, IfSome};
+ghost use Rattle.std.specs.Prelude.{◌≡◌, ℕ, ◌+◌, ◌-◌, ◌*◌, ◌≤◌, ◌<◌, SomeIff, IfSome};
 ghost use Rattle.eg_num.specs.Windows.{AreWeights};
-ghost use Rattle.eg_answer.specs.Times.{TimeParts, AreTimes, feeds_to_confirm, reaction_of, periods_to_confirm, HasLapseBound, lapse_bound_of, HasMissSpacing, TakesBack, TakesBackWithin, miss_spacing_of};
+ghost use Rattle.eg_answer.specs.Times.{TimeParts, AreTimes, feeds_to_confirm, reaction_of, periods_to_confirm, HasLapseBound, lapse_bound_of, rights_between, most_wrong, further_ticks, longest_missed_of, HasMissSpacing, TakesBack, TakesBackWithin, miss_spacing_of};
 
 use eg_num::Weights;
 use std::marker::Model;
@@ -172,24 +172,71 @@ pub fn lapse_bound(torque: &Weights, times: &Times) -> Option<u32>
     }
 }
 
+/// How many right verdicts may stand between wrong ones while an excess isn't confirmed (docs/CONCEPT.md,
+/// "Lapses").
+fn rights_between(torque: &Weights, times: &Times) -> u32
+    ensures number { result ≡ rights_between torque.now times.now }
+    ensures within { result ≤ 10000 }
+    ensures ticks { result * times.now.period ≤ 10000 }
+{
+    let runs = feeds_to_confirm(torque);
+    runs.saturating_sub(2) / u32::from(times.period())
+}
+
+/// How many wrong verdicts a debouncer takes at the most, the confirming one counted, with so many right ones
+/// between them (docs/CONCEPT.md, "Lapses").
+fn most_wrong(weights: &Weights, rights: u32) -> u32
+    requires { rights ≤ 10000 }
+    ensures number { result ≡ most_wrong weights.now rights }
+    ensures within { result ≤ feeds_to_confirm weights.now + rights * (feeds_to_confirm weights.now - 1) }
+{
+    let verdicts = feeds_to_confirm(weights);
+    let below = u32::from(weights.limit()) - 1 + rights * u32::from(weights.down());
+    let weighed = below / u32::from(weights.up()) + 1;
+    weighed.min(verdicts + rights * (verdicts - 1))
+}
+
+/// How many ticks the periods have whose verdicts a debouncer takes as wrong beyond those that confirm in a
+/// row (docs/CONCEPT.md, "Lapses").
+fn further_ticks(torque: &Weights, times: &Times) -> u32
+    ensures number { result ≡ further_ticks torque.now times.now }
+    ensures within { result ≤ 100000000 }
+{
+    let answers = times.weights();
+    let verdicts = feeds_to_confirm(answers);
+    let wrong = most_wrong(answers, rights_between(torque, times));
+    wrong.saturating_sub(verdicts) * u32::from(times.period())
+}
+
+/// How many ticks in a row an excess lasts at the most where level 2 as a whole doesn't run at some ticks,
+/// whichever they are, and there is no ramp (docs/CONCEPT.md, "Lapses").
+pub fn longest_missed(torque: &Weights, times: &Times) -> u32
+    ensures { result ≡ longest_missed_of torque.now times.now }
+{
+    // Called for its clause alone: few verdicts confirm, so that the sum is small.
+    let _verdicts = feeds_to_confirm(times.weights());
+    let listed = feeds_to_confirm(torque) - 1 + reaction(times);
+    listed + further_ticks(torque, times).saturating_sub(1)
+}
+
 /// How far apart, in ticks, missed runs of level 2 have to lie so that wrong answers never cut before a trip
 /// (docs/CONCEPT.md, "Lapses"). A missed run spoils at most two verdicts, which add `2 * up`. Where two
-/// misses lie so far apart, all verdicts between them but those two are right, and take that back. The number
-/// is the least count of whole periods in which they do, in ticks; nothing is said of misses that lie nearer.
+/// misses lie so far apart, the verdicts between those that they spoil are right, and take that back. The
+/// number is the least count of whole periods in which all verdicts but one do, in ticks, and one tick more.
 /// None exactly if two wrong verdicts are enough to confirm, `limit <= 2 * up`, or a right one takes
 /// nothing.
 pub fn miss_spacing(times: &Times) -> Option<u32>
     ensures distance { SomeIff result (HasMissSpacing times.now) (miss_spacing_of times.now) }
     ensures enough { IfSome result (λ ticks. TakesBackWithin times.now ticks) }
     ensures least { (periods : ℕ) → TakesBack times.now periods →
-        IfSome result (λ ticks. ticks ≤ periods * times.now.period) }
+        IfSome result (λ ticks. ticks ≤ periods * times.now.period + 1) }
 {
     let answers = times.weights();
     let spoiled = 2 * u32::from(answers.up());
     let down = u32::from(answers.down());
     if down >= 1 && spoiled < u32::from(answers.limit()) {
-        let periods = spoiled.div_ceil(down) + 2;
-        Some(periods * u32::from(times.period()))
+        let periods = spoiled.div_ceil(down) + 1;
+        Some(periods * u32::from(times.period()) + 1)
     } else {
         None
     }

@@ -1,11 +1,12 @@
 -- What the numbers of `coverage` mean: what holds of each class of fault.
-use Rattle.std.proofs.Common.{◌≡◌, ◌∙◌, refl, sym, ap, ℕ, Bool, true, false, ◌||◌, Some}
-use Rattle.std.proofs.lemmas.Bool.{or_left, or_right, true≢false}
-use Rattle.eg_answer.specs.Times.{TimeParts}
+use Rattle.std.proofs.Common.{◌≡◌, ◌≢◌, ◌∙◌, refl, sym, ap, subst, ℕ, ◌+◌, ◌-◌, ◌<◌, Bool, true, false, ◌||◌, Some, inl, inr, arith}
+use Rattle.std.proofs.lemmas.Bool.{cases_lt, or_left, or_right, true≢false}
+use Rattle.eg_answer.specs.Times.{TimeParts, feeds_to_confirm}
 use Rattle.eg_values.specs.Calibration.{CalibrationParts}
 use Rattle.eg_plant.specs.declared.engine_kind.EngineKind.TheVariants as kind
 use Rattle.eg_fault.specs.Effects.{Effects, no_effects}
-use Rattle.eg_fault.specs.Faults.{effects_of, is_lapse}
+use Rattle.eg_fault.specs.Faults.{effects_of, effects, is_lapse}
+use Rattle.eg_fault.proofs.ActingLemmas.{of_class}
 use Rattle.eg_fault.specs.Running.{may_change_levels}
 use Rattle.eg_fault.specs.Names.{name_of, class_index, swept}
 use Rattle.eg_fault.specs.declared.class.Class.{Class}
@@ -23,11 +24,12 @@ use Rattle.eg_laws.specs.Latent.{always_hides, hides_at_rest}
 use Rattle.eg_laws.specs.SharpUnder.{leaves_readings}
 use Rattle.eg_laws.proofs.KindLaws.{diesel_is_calm}
 use Rattle.eg_laws.proofs.LatentAtRest.{rest_hides}
-use Rattle.eg_laws.proofs.LatentLaws.{readings_apart_hide, far_misses_hide}
+use Rattle.eg_model.proofs.PeriodLemmas.{quotient}
+use Rattle.eg_laws.proofs.LatentLaws.{readings_apart_hide, far_misses_hide, one_miss_hides}
 use Rattle.eg_laws.proofs.LatentOffsets.{small_offsets_hide, small_scripts_hide}
 use Rattle.eg_laws.proofs.LatentMoves.{moves_in_window_hide}
-use Rattle.eg_desk.specs.Means.{AllHide, AllHideAtRest, SmallOffsetsStay, SmallScriptsStay, MovesStay, FarMissesStay, on_contact, is_of}
-use Rattle.eg_desk.proofs.MeansRows.{Obeys, Runs}
+use Rattle.eg_desk.specs.Means.{AllHide, AllHideAtRest, SmallOffsetsStay, SmallScriptsStay, MovesStay, OneMissStays, FarMissesStay, on_contact, is_of}
+use Rattle.eg_desk.proofs.MeansRows.{Obeys, Runs, obeys_plain}
 
 -- ---- what holds of a class ----
 
@@ -177,6 +179,27 @@ moves_stay = moves_in_window_hide
 
 pub far_misses_stay : FarMissesStay
 far_misses_stay = far_misses_hide
+
+-- where one wrong verdict isn't enough to confirm, the weight of one lies below the limit
+pub one_miss_stays : (cal : CalibrationParts) → feeds_to_confirm cal.times.weights ≢ 1 → OneMissStays cal
+unfolding feeds_to_confirm
+one_miss_stays cal several accepted tick off within engine = one_miss_hides engine cal accepted below tick off within
+  where
+    below : cal.times.weights.up < cal.times.weights.limit
+    below = elim (cases_lt cal.times.weights.up cal.times.weights.limit) [
+      | inl less ↦ less
+      | inr enough ↦ absurd (several (quotient cal.times.weights.up 1 (cal.times.weights.limit - 1)
+          (cal.times.weights.limit + (cal.times.weights.up - 1))
+          (let l = accepted.answers.3 in omega (arith, enough, l))
+          (let l = accepted.answers.3 in let u = accepted.answers.0 in omega (arith, enough, l, u))))
+    ]
+
+-- a lapse leaves the paths to their latches, and orders nothing
+pub lapse_obeys : (f : Fault) → IsLapse (Some f) → (t : ℕ) → Obeys (effects (Some f) t)
+unfolding effects_of no_effects
+lapse_obeys f lapse t = subst (λ g. Obeys (effects g t)) (sym lapse.is)
+    (of_class Obeys (record { onset = lapse.onset; class = class.Lapse lapse.after lapse.every }) obeys_plain
+    (λ k. record { open_1 = refl; open_2 = refl; shut_2 = refl; orders = refl }) t)
 
 pub lapse_of : (f : Fault) → is_of name.Lapse f.class ≡ true → IsLapse (Some f)
 unfolding is_of name_of class_index

@@ -1,11 +1,11 @@
 -- What the numbers of `coverage` mean, by the rows of records.
-use Rattle.std.proofs.Common.{◌≡◌, ◌∙◌, refl, sym, ap, subst, ℕ, ◌+◌, ◌-◌, ◌≤◌, ◌<◌, Bool, true, false, not, ◌&&◌, ◌||◌, max, List, [], ◌∷◌, ◌++◌, All, length, append_assoc, arith, inl, inr, Option, Some, None}
-use Rattle.std.specs.Prelude.{◌==◌, SomeIff}
+use Rattle.std.proofs.Common.{◌≡◌, ◌≢◌, ◌∙◌, refl, sym, ap, subst, ℕ, ◌+◌, ◌-◌, ◌≤◌, ◌<◌, Bool, true, false, not, ◌&&◌, ◌||◌, max, List, [], ◌∷◌, ◌++◌, All, length, append_assoc, arith, inl, inr, Option, Some, None}
+use Rattle.std.specs.Prelude.{◌==◌, SomeIff, if◌then◌else◌}
 use Rattle.std.specs.List.{list_any}
-use Rattle.std.proofs.lemmas.Bool.{cases_lt, eq-eqb, or_left, or_right, and_from, and_parts, true≢false}
-use Rattle.eg_answer.specs.Times.{feeds_to_confirm, reaction_of, test_ticks_of, lapse_bound_of, HasMissSpacing, miss_spacing_of}
+use Rattle.std.proofs.lemmas.Bool.{cases_lt, eq-eqb, ne_eqb, or_left, or_right, and_from, and_parts, true≢false}
+use Rattle.eg_answer.specs.Times.{feeds_to_confirm, reaction_of, test_ticks_of}
 use Rattle.eg_values.specs.Calibration.{CalibrationParts}
-use Rattle.eg_values.specs.Excess.{BoundsLapses}
+use Rattle.eg_values.specs.Excess.{BoundsMissed, longest_missed}
 use Rattle.eg_plant.specs.PlantParts.{PlantParts}
 use Rattle.eg_fault.specs.Effects.{Effects, no_effects}
 use Rattle.eg_fault.specs.Faults.{effects_of, effects, is_lapse, IsValid, IsValidClass, IsNoneOrValid, IsListed}
@@ -27,10 +27,10 @@ use Rattle.eg_model.specs.Rows.{record_rows}
 use Rattle.eg_model.specs.Engines.{BenchEngine, KeepsBenchLaws, ShowsOneLoad, bench_of}
 use Rattle.eg_laws.proofs.KindLaws.{keeps_of, shows_one_load_of}
 use Rattle.eg_model.specs.Bench.{Run}
-use Rattle.eg_model.specs.Records.{IsRun}
+use Rattle.eg_model.specs.Records.{IsRun, ExcessIsBelow}
 use Rattle.eg_model.proofs.SpanRows.{EndOf, end_of}
 use Rattle.eg_model.proofs.RecordSpans.{with_part}
-use Rattle.eg_model.proofs.RecordLaws.{records_react, records_react_at_once, records_have_short_excess, records_test_unpowered}
+use Rattle.eg_model.proofs.RecordLaws.{records_react, records_react_at_once, records_test_unpowered}
 use Rattle.eg_laws.specs.Findings.{flips_at}
 use Rattle.eg_laws.specs.Paths.{trips, opened_2, FollowsLatches, RowsFollowLatches}
 use Rattle.eg_laws.specs.PairsFound.{Pair, Pedal, Plate, Load, Speed, SparesModules}
@@ -39,14 +39,17 @@ use Rattle.eg_laws.proofs.PairsFoundLaws.{disagreeing_rows_are_found}
 use Rattle.eg_laws.proofs.PathLaws.{records_follow_latches}
 use Rattle.eg_laws.proofs.CoverageRecords.{records_open_path_2, records_cut_moved, records_find_closed}
 use Rattle.eg_laws.proofs.FindingRecords.{records_tell_flips}
+use Rattle.eg_laws.specs.Availability.{misses_tick}
+use Rattle.eg_laws.proofs.MissedStretchLaws.{records_end_missed_stretches}
+use Rattle.eg_laws.proofs.MissedTickRecords.{records_open_on_misses}
 use Rattle.eg_desk.specs.declared.coverage.CoverageCase.{CoverageCase}
 use Rattle.eg_desk.specs.declared.coverage.CoverageCase.TheVariants as case
 use Rattle.eg_desk.specs.declared.coverage.CoverageTicks.{CoverageTicks}
 use Rattle.eg_desk.specs.declared.coverage.Off.TheVariants.{After, Confirmed}
-use Rattle.eg_desk.specs.Coverage.{AreTicks, found, unfound, lapse_off, lapse_hidden, numbers_of}
-use Rattle.eg_desk.specs.Means.{SmallOffsetsStay, SmallScriptsStay, MovesStay, on_contact, FindsFlip, FindsClosed, ReactsIn, ExcessIsBelow, RowMeans, MeansPedal, MeansApart, MeansUnfound, MeansSpoiled, MeansTested, MeansLapse, MeansSpaced, NumbersMean, is_of, IsOffFrom, FindsAnswersWithin, FindsApart, CutsApart, CutsOrdered}
+use Rattle.eg_desk.specs.Coverage.{AreTicks, found, unfound, lapse_off, lapse_numbers, numbers_of}
+use Rattle.eg_desk.specs.Means.{SmallOffsetsStay, SmallScriptsStay, MovesStay, on_contact, FindsFlip, FindsClosed, ReactsIn, RowMeans, MeansPedal, MeansApart, MeansUnfound, MeansSpoiled, MeansTested, MeansFoundLapse, MeansHiddenLapse, MeansMissed, NumbersMean, is_of, IsOffFrom, FindsMisses, CutsMisses, FindsAnswersWithin, FindsApart, CutsApart, CutsOrdered}
 use Rattle.eg_desk.proofs.MeansRows.{at_row, all_by, any_append, IsBoth, both_paths, off_by_1, off_by_2, Obeys, Runs, obeys_plain, runs_plain, off_after_trip, answers_within, off_within, cuts, mirror_trips, cuts_apart, IsPlaced, placed, react_next}
-use Rattle.eg_desk.proofs.MeansClasses.{IsAtOnce, MayRead, by_script, by_offset, spoils_obeys, moved_obeys, MayFlip, may_flip, named_lapse, named_spoils, named_closed, as_swept, at_once, of_swept, wild_obeys, bus_hides, contact_hides, all_hide, all_hide_at_rest, small_offsets_stay, small_scripts_stay, moves_stay, far_misses_stay, lapse_of}
+use Rattle.eg_desk.proofs.MeansClasses.{IsAtOnce, MayRead, by_script, by_offset, spoils_obeys, moved_obeys, MayFlip, may_flip, named_lapse, named_spoils, named_closed, as_swept, at_once, of_swept, wild_obeys, bus_hides, contact_hides, all_hide, all_hide_at_rest, small_offsets_stay, small_scripts_stay, moves_stay, far_misses_stay, one_miss_stays, lapse_of, lapse_obeys}
 
 path_in : (c : Class) → is_of name.PathOpen c ≡ true → (path : ℕ) × (c ≡ class.PathOpen path)
 unfolding is_of name_of class_index
@@ -79,12 +82,29 @@ module _ {E : Type 0} (b : BenchEngine E) (r : Run) (f : Fault) (is : r.setting.
       EachDriveSpan (FindsAnswersWithin f.onset n) Rows × EachDriveSpan (IsOffFrom f.onset n) Rows
   spoiled_by n obeys opens = (
     (λ newer span older e d. answers_within f (length older) span (follow newer span older e d)
-        (both_paths b r newer span older e d) obeys n
+        (both_paths b r newer span older e d) obeys f.onset n
         (opens newer span older e d)),
     (λ newer span older e d. off_within f (length older) span (follow newer span older e d)
-        (both_paths b r newer span older e d) n
+        (both_paths b r newer span older e d) f.onset n
         (opens newer span older e d)),
   )
+
+  -- after each tick that a lapse leaves out, where one wrong verdict confirms
+  pub found_misses : IsRun r → IsLapse (Some f) → feeds_to_confirm r.setting.cal.times.weights ≡ 1 →
+      EachDriveSpan (FindsMisses f (reaction_of r.setting.cal.times)) Rows × EachDriveSpan (CutsMisses f (reaction_of r.setting.cal.times)) Rows
+  found_misses run lapse single = (
+    (λ newer span older e d tick from out. answers_within f (length older) span (follow newer span older e d)
+        (both_paths b r newer span older e d) (lapse_obeys f lapse) tick (reaction_of r.setting.cal.times)
+        (opens newer span older e d tick from out)),
+    (λ newer span older e d tick from out. off_within f (length older) span (follow newer span older e d)
+        (both_paths b r newer span older e d) tick (reaction_of r.setting.cal.times)
+        (opens newer span older e d tick from out)),
+  )
+    where
+      opens : EachDriveSpan (λ start rows. (tick : ℕ) → start ≤ tick → misses_tick (Some f) tick ≡ true →
+          OpensPath2 tick (reaction_of r.setting.cal.times) start rows) Rows
+      opens newer span older e d tick from out = records_open_on_misses b r run (subst IsLapse (sym is) lapse) single newer span older e d tick from
+          (subst (λ g. misses_tick g tick ≡ true) (sym is) out)
 
   pub spoiled : IsRun r → IsValid f → spoils_answers f.class ≡ true →
       EachDriveSpan (FindsAnswersWithin f.onset (reaction_of r.setting.cal.times)) Rows
@@ -248,12 +268,9 @@ module _ {E : Type 0} {b : BenchEngine E} {Keeps : PlantParts → E → Type 0} 
   pub reacts_within : is_lapse f.class ≡ false → ReactsIn r.setting (record_rows b r) (reaction_of r.setting.cal.times)
   reacts_within listed = records_react keeps r run (is_listed b r f is valid listed)
 
-  pub excess_is_below : IsLapse (Some f) → BoundsLapses r.setting.cal →
-      EachDriveSpan (ExcessIsBelow r.setting.cal.rules.threshold (lapse_bound_of r.setting.cal.rules.torque r.setting.cal.times))
-      (record_rows b r)
-  excess_is_below lapse bound newer span older e d later before m split last =
-      records_have_short_excess keeps r run (none_or_valid b r f is valid) bound (subst IsLapse
-      (sym is) lapse) newer span older e d later before m split last
+  pub excess_is_below : IsLapse (Some f) → BoundsMissed r.setting.cal →
+      EachDriveSpan (ExcessIsBelow r.setting.cal.rules.threshold (longest_missed r.setting.cal + 1)) (record_rows b r)
+  excess_is_below lapse bounds = records_end_missed_stretches keeps r run (none_or_valid b r f is valid) (subst IsLapse (sym is) lapse) bounds
 
 -- ---- rows of `coverage` ----
 
@@ -342,21 +359,44 @@ module _ (cal : CalibrationParts) (ticks : CoverageTicks) (are : AreTicks cal ti
     ),
   )
 
-  means_bound : (bound : Option ℕ) → SomeIff bound (BoundsLapses cal) (lapse_bound_of cal.rules.torque cal.times) →
-      MeansLapse cal (lapse_off bound)
+  means_missed : (longest : Option ℕ) → SomeIff longest (BoundsMissed cal) (longest_missed cal) → MeansMissed cal (lapse_off longest)
   unfolding lapse_off
-  means_bound None none = none
-  means_bound (Some n) is_bound = λ engine r f run same is valid one. subst
-      (λ n. EachDriveSpan (ExcessIsBelow r.setting.cal.rules.threshold n) (record_rows (bench_of engine) r))
-      (ap (λ (c : CalibrationParts). lapse_bound_of c.rules.torque c.times) same ∙ sym is_bound.1)
-      (excess_is_below (keeps_of engine) (shows_one_load_of engine) r f is run valid (lapse_of f one) (subst BoundsLapses
-      (sym same) is_bound.0))
+  means_missed None none = none
+  means_missed (Some n) is_longest = λ engine r f run same is valid one. subst
+      (λ n. EachDriveSpan (ExcessIsBelow r.setting.cal.rules.threshold (n + 1)) (record_rows (bench_of engine) r))
+      (ap longest_missed same ∙ sym is_longest.1)
+      (excess_is_below (keeps_of engine) (shows_one_load_of engine) r f is run valid (lapse_of f one) (subst BoundsMissed
+      (sym same) is_longest.0))
 
-  means_spaced : (spacing : Option ℕ) → SomeIff spacing (HasMissSpacing cal.times) (miss_spacing_of cal.times) →
-      MeansSpaced cal (lapse_hidden spacing)
-  unfolding lapse_hidden
-  means_spaced None none = none
-  means_spaced (Some n) is_spacing = (is_spacing.0, far_misses_stay)
+  lapse_found : feeds_to_confirm cal.times.weights ≡ 1 → lapse_numbers ticks ≡ found ticks.reaction (After ticks.reaction)
+  unfolding lapse_numbers
+  lapse_found single = ap (λ b. if b then found ticks.reaction (After ticks.reaction) else unfound (lapse_off ticks.missed))
+      (eq-eqb ticks.verdicts 1 (are.verdicts ∙ single))
+
+  lapse_hides : feeds_to_confirm cal.times.weights ≢ 1 → lapse_numbers ticks ≡ unfound (lapse_off ticks.missed)
+  unfolding lapse_numbers
+  lapse_hides several = ap (λ b. if b then found ticks.reaction (After ticks.reaction) else unfound (lapse_off ticks.missed))
+      (ne_eqb ticks.verdicts 1 (λ one. several (sym are.verdicts ∙ one)))
+
+  means_found_lapse : feeds_to_confirm cal.times.weights ≡ 1 → MeansFoundLapse cal (found ticks.reaction (After ticks.reaction))
+  means_found_lapse single = (
+    refl,
+    λ engine r f run same is valid one. subst
+        (λ n. EachDriveSpan (FindsMisses f n) (record_rows (bench_of engine) r)
+        × EachDriveSpan (CutsMisses f n) (record_rows (bench_of engine) r)) (reaction_is r.setting same)
+        (found_misses (bench_of engine) r f is run (lapse_of f one)
+        (ap (λ (c : CalibrationParts). feeds_to_confirm c.times.weights) same ∙ single)),
+  )
+
+  means_hidden_lapse : feeds_to_confirm cal.times.weights ≢ 1 → MeansHiddenLapse cal (unfound (lapse_off ticks.missed))
+  means_hidden_lapse several = (refl, (one_miss_stays cal several, far_misses_stay), means_missed ticks.missed are.missed)
+
+  means_lapse : (feeds_to_confirm cal.times.weights ≡ 1 → MeansFoundLapse cal (lapse_numbers ticks))
+      × (feeds_to_confirm cal.times.weights ≢ 1 → MeansHiddenLapse cal (lapse_numbers ticks))
+  means_lapse = (
+    (λ single. subst (MeansFoundLapse cal) (sym (lapse_found single)) (means_found_lapse single)),
+    (λ several. subst (MeansHiddenLapse cal) (sym (lapse_hides several)) (means_hidden_lapse several)),
+  )
 
   means_open : RowMeans cal case.PathOpen (numbers_of ticks case.PathOpen)
   unfolding RowMeans numbers_of of_swept
@@ -427,7 +467,7 @@ module _ (cal : CalibrationParts) (ticks : CoverageTicks) (are : AreTicks cal ti
       (at_once name.Path2Closed refl (λ onset tick. refl))
   means case.Path2Tested = means_tested name.Path2Closed (as_swept holds_closed named_closed name.Path2Closed true refl)
   means case.PathOpen = means_open
-  means case.Lapse = (refl, means_spaced ticks.spacing are.spacing, means_bound ticks.lapse are.lapse)
+  means case.Lapse = means_lapse
 
 pub numbers_mean : NumbersMean
 numbers_mean cal ticks are one = means cal ticks are one

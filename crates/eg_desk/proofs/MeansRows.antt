@@ -146,23 +146,23 @@ module _ (f : Fault) (start : ℕ) (rows : List Row) (follow : RowsFollowLatches
   ]
 
   -- where path 2 doesn't conduct from a tick on, they were found by then, and the stages are off
-  pub answers_within : ((t : ℕ) → Obeys (effects (Some f) t)) → (n : ℕ) → OpensPath2 f.onset n start rows →
-      FindsAnswersWithin f.onset n start rows
-  answers_within obeys n opens later before row e late = go (opened_2 (Some f) before) refl
+  pub answers_within : ((t : ℕ) → Obeys (effects (Some f) t)) → (onset n : ℕ) → OpensPath2 onset n start rows →
+      FindsAnswersWithin onset n start rows
+  answers_within obeys onset n opens later before row e late = go (opened_2 (Some f) before) refl
     where
       shut : (effects (Some f) row.tick).conducts PATH_2 (opened_2 (Some f) before) ≡ false
       shut = sym (follow later row before e).path2
-          ∙ at_row (λ r. max f.onset start + n ≤ r.tick → r.path2 ≡ false) rows later row before e opens late
+          ∙ at_row (λ r. max onset start + n ≤ r.tick → r.path2 ≡ false) rows later row before e opens late
 
       go : (b : Bool) → opened_2 (Some f) before ≡ b → Finds (Answers ∷ []) before
       go true is = found_answers obeys before is
       go false is = absurd (true≢false (sym (ap ((effects (Some f) row.tick).conducts PATH_2) is ∙ (obeys row.tick).shut_2)
           ∙ shut))
 
-  pub off_within : (n : ℕ) → OpensPath2 f.onset n start rows → IsOffFrom f.onset n start rows
-  off_within n opens = all_by (λ row. max f.onset start + n ≤ row.tick → row.on ≡ false) rows (λ later before row e late.
+  pub off_within : (onset n : ℕ) → OpensPath2 onset n start rows → IsOffFrom onset n start rows
+  off_within onset n opens = all_by (λ row. max onset start + n ≤ row.tick → row.on ≡ false) rows (λ later before row e late.
       off_by_2 row (at_row IsBoth rows later row before e both)
-      (at_row (λ r. max f.onset start + n ≤ r.tick → r.path2 ≡ false) rows later row before e opens late))
+      (at_row (λ r. max onset start + n ≤ r.tick → r.path2 ≡ false) rows later row before e opens late))
 
 -- ---- pairs ----
 

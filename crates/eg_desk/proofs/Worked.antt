@@ -3,8 +3,9 @@ use Rattle.std.proofs.Common.{◌≡◌, ◌++◌, codes, Some, None, refl}
 use Rattle.std.specs.Fmt.{digits}
 use Rattle.eg_values.specs.Reference.{reference_questions}
 use Rattle.eg_desk.specs.declared.coverage.CoverageTicks.{CoverageTicks}
+use Rattle.eg_desk.specs.declared.coverage.CoverageCase.TheVariants.{Lapse}
 use Rattle.eg_desk.specs.declared.limit.Limits.{Limits}
-use Rattle.eg_desk.specs.Coverage.{lapse_off, lapse_hidden, numbers_of, case_words, case_stakes, within_text, off_text, hidden_text, coverage_text}
+use Rattle.eg_desk.specs.Coverage.{lapse_off, lapse_numbers, numbers_of, case_words, case_stakes, case_watch, found_text, coverage_line, off_text, hidden_text, coverage_text}
 use Rattle.eg_desk.specs.Texts.{number_or_none, limits_text, answer_lines, answers_text}
 
 abbrev some_limits : Limits
@@ -14,14 +15,15 @@ some_limits = record {
   verdicts = 3;
   excess = 5;
   test = 30;
-  spacing = Some 80;
+  spacing = Some 71;
   stretch = 38;
   peak = 2300;
   ramp = Some 0;
+  missed = Some 38;
 }
 
 limits_known : limits_text some_limits
-    ≡ codes "reaction 34\nlapse none\nverdicts 3\nexcess 5\ntest 30\nspacing 80\nstretch 38\npeak 2300\nramp 0\n"
+    ≡ codes "reaction 34\nlapse none\nverdicts 3\nexcess 5\ntest 30\nspacing 71\nstretch 38\npeak 2300\nramp 0\nmissed 38\n"
 unfolding digits number_or_none
 limits_known = refl
 
@@ -30,7 +32,7 @@ unfolding digits answer_lines
 answers_known = refl
 
 abbrev some_ticks : CoverageTicks
-some_ticks = record { pair = 5; reaction = 34; test = 40; lapse = Some 50; spacing = Some 56 }
+some_ticks = record { pair = 5; reaction = 34; test = 40; verdicts = 3; missed = Some 38 }
 
 coverage_known : coverage_text some_ticks
     ≡ codes "class,case,effect,finds,within,off,hidden\n"
@@ -61,6 +63,17 @@ coverage_known : coverage_text some_ticks
     ++ codes "path2-closed,without a reset,no cut by path 2,-,-,confirmed + 1,1\n"
     ++ codes "path2-closed,with a reset,no cut by path 2,start,41,0,0\n"
     ++ codes "path-open,either path,cut without need,-,-,0,1\n"
-    ++ codes "lapse,level 2 left out at times,late cut,-,-,excess < 50,1\n"
-unfolding digits lapse_off lapse_hidden numbers_of case_words case_stakes within_text off_text hidden_text coverage_text
+    ++ codes "lapse,level 2 left out at times,late cut,-,-,excess < 39,1\n"
+unfolding digits lapse_off lapse_numbers numbers_of case_words case_stakes case_watch found_text off_text hidden_text coverage_text
 coverage_known = refl
+
+-- where one wrong verdict confirms a lapse is found, and where nothing bounds how long an excess lasts there is no number
+lapse_found : coverage_line (record { pair = 5; reaction = 14; test = 10; verdicts = 1; missed = Some 18 }) Lapse
+    ≡ codes "lapse,level 2 left out at times,late cut,answers,14,14,0\n"
+unfolding digits lapse_numbers numbers_of case_words case_stakes case_watch found_text off_text hidden_text
+lapse_found = refl
+
+lapse_unbounded : coverage_line (record { pair = 5; reaction = 34; test = 40; verdicts = 3; missed = None }) Lapse
+    ≡ codes "lapse,level 2 left out at times,late cut,-,-,-,1\n"
+unfolding digits lapse_off lapse_numbers numbers_of case_words case_stakes case_watch found_text off_text hidden_text
+lapse_unbounded = refl

@@ -1,12 +1,12 @@
 -- `coverage` writes a row for each class of fault, or part of one, that the laws tell apart: what is at
 -- stake, which watch finds it, within how many ticks, from when on the stages are off, and whether it may
 -- stay hidden.
-use Rattle.std.specs.Prelude.{◌≡◌, ℕ, ◌+◌, Bool, true, false, List, [], ◌∷◌, ◌++◌, map, codes, decimal, Option, Some, None, SomeIff}
+use Rattle.std.specs.Prelude.{◌≡◌, ℕ, ◌+◌, Bool, true, false, List, [], ◌∷◌, ◌++◌, map, codes, decimal, Option, Some, None, SomeIff, ◌==◌, if◌then◌else◌}
 use Rattle.std.specs.List.{concat}
 use Rattle.eg_base.specs.Outside.{ShownSink}
-use Rattle.eg_answer.specs.Times.{feeds_to_confirm, reaction_of, test_ticks_of, lapse_bound_of, HasMissSpacing, miss_spacing_of}
+use Rattle.eg_answer.specs.Times.{feeds_to_confirm, reaction_of, test_ticks_of}
 use Rattle.eg_values.specs.Calibration.{CalibrationParts}
-use Rattle.eg_values.specs.Excess.{BoundsLapses}
+use Rattle.eg_values.specs.Excess.{BoundsMissed, longest_missed}
 use Rattle.eg_outcome.specs.Changes.{Change}
 use Rattle.eg_outcome.specs.Outcomes.{LineEnds}
 use Rattle.eg_outcome.specs.declared.outcome.Outcome.{Outcome}
@@ -20,31 +20,32 @@ use Rattle.eg_desk.specs.declared.coverage.Off.TheVariants.{Never, After, Confir
 -- ---- the numbers ----
 
 -- These numbers are those of a calibration: how many ticks in a row confirm a pair that disagrees, the
--- worst-case reaction, the tick of its span at which a start-up test reads the paths back, and the bound for
--- lapses and the spacing of misses, if it has them.
+-- worst-case reaction, the tick of its span at which a start-up test reads the paths back, how many wrong
+-- verdicts in a row confirm, and how long an excess lasts under lapses, if that is bounded.
 pub record AreTicks (cal : CalibrationParts) (ticks : CoverageTicks) : Type 0 where
   pub pair : ticks.pair ≡ feeds_to_confirm cal.rules.pair
   pub reaction : ticks.reaction ≡ reaction_of cal.times
   pub test : ticks.test ≡ test_ticks_of cal.times
-  pub lapse : SomeIff ticks.lapse (BoundsLapses cal) (lapse_bound_of cal.rules.torque cal.times)
-  pub spacing : SomeIff ticks.spacing (HasMissSpacing cal.times) (miss_spacing_of cal.times)
+  pub verdicts : ticks.verdicts ≡ feeds_to_confirm cal.times.weights
+  pub missed : SomeIff ticks.missed (BoundsMissed cal) (longest_missed cal)
 
 -- a fault that is found within so many ticks, and one that nothing need find and that can stay hidden
 abbrev pub found : ℕ → Off → CoverageRow
-found within off = record { within = Some within; off = off; hidden = Some false }
+found within off = record { within = Some within; off = off; hidden = false }
 
 abbrev pub unfound : Off → CoverageRow
-unfound off = record { within = None; off = off; hidden = Some true }
+unfound off = record { within = None; off = off; hidden = true }
 
--- no true excess lasts so many ticks, if there is such a number
+-- no true excess lasts longer, if there is such a number
 unfoldable pub lapse_off : Option ℕ → Off
 lapse_off None = Never
-lapse_off (Some bound) = Excess bound
+lapse_off (Some longest) = Excess (longest + 1)
 
--- a lapse can stay hidden where its misses can lie so far apart that they never cut; else nothing is known
-unfoldable pub lapse_hidden : Option ℕ → Option Bool
-lapse_hidden None = None
-lapse_hidden (Some spacing) = Some true
+-- a lapse is found where one wrong verdict confirms; else it can stay hidden
+unfoldable pub lapse_numbers : CoverageTicks → CoverageRow
+lapse_numbers ticks =
+    if ticks.verdicts == 1 then found ticks.reaction (After ticks.reaction)
+    else unfound (lapse_off ticks.missed)
 
 -- the numbers of the row of a case
 unfoldable pub numbers_of : CoverageTicks → CoverageCase → CoverageRow
@@ -75,8 +76,7 @@ numbers_of ticks Path1Tested = found (ticks.test + 1) (After 0)
 numbers_of ticks Path2Driven = unfound (Confirmed 1)
 numbers_of ticks Path2Tested = found (ticks.test + 1) (After 0)
 numbers_of ticks PathOpen = unfound (After 0)
-numbers_of ticks Lapse =
-    record { within = None; off = lapse_off ticks.lapse; hidden = lapse_hidden ticks.spacing }
+numbers_of ticks Lapse = lapse_numbers ticks
 
 -- the cases in their order
 abbrev pub cases : List CoverageCase
@@ -119,41 +119,61 @@ case_words Path2Tested = codes "path2-closed,with a reset"
 case_words PathOpen = codes "path-open,either path"
 case_words Lapse = codes "lapse,level 2 left out at times"
 
--- the two behind them: what is at stake, and what finds it
+-- the one behind them: what is at stake
 unfoldable pub case_stakes : CoverageCase → List ℕ
-case_stakes ScriptPedal = codes ",wrong pedal is seen,pedal"
-case_stakes ScriptPlate = codes ",wrong plate is seen,plate"
-case_stakes ScriptLoad = codes ",wrong load is seen,load"
-case_stakes ScriptSpeed = codes ",wrong speed is seen,speed"
-case_stakes ScriptWithin = codes ",level 2 errs to the safe side,-"
-case_stakes ScriptContact = codes ",level 2 errs to the safe side,-"
-case_stakes OffsetPedal = codes ",wrong pedal is seen,pedal"
-case_stakes OffsetPlate = codes ",wrong plate is seen,plate"
-case_stakes OffsetLoad = codes ",wrong load is seen,load"
-case_stakes OffsetSpeed = codes ",wrong speed is seen,speed"
-case_stakes OffsetWithin = codes ",level 2 errs to the safe side,-"
-case_stakes OffsetContact = codes ",level 2 errs to the safe side,-"
-case_stakes Bus = codes ",raise taken as 0,-"
-case_stakes Plate = codes ",torque not as ordered,-"
-case_stakes Skip = codes ",no answer is right,answers"
-case_stakes Disturb = codes ",no answer is right,answers"
-case_stakes Flip = codes ",a wrong word of level 2,mirror"
-case_stakes Halt = codes ",outputs stay as they are,answers"
-case_stakes TimingOutside = codes ",no answer is right,answers"
-case_stakes TimingInside = codes ",one verdict may be wrong,-"
-case_stakes WildOpens = codes ",cut without need,-"
-case_stakes WildNever = codes ",no cut by path 2,-"
-case_stakes Path1Driven = codes ",no cut by path 1,-"
-case_stakes Path1Tested = codes ",no cut by path 1,start"
-case_stakes Path2Driven = codes ",no cut by path 2,-"
-case_stakes Path2Tested = codes ",no cut by path 2,start"
-case_stakes PathOpen = codes ",cut without need,-"
-case_stakes Lapse = codes ",late cut,-"
+case_stakes ScriptPedal = codes ",wrong pedal is seen"
+case_stakes ScriptPlate = codes ",wrong plate is seen"
+case_stakes ScriptLoad = codes ",wrong load is seen"
+case_stakes ScriptSpeed = codes ",wrong speed is seen"
+case_stakes ScriptWithin = codes ",level 2 errs to the safe side"
+case_stakes ScriptContact = codes ",level 2 errs to the safe side"
+case_stakes OffsetPedal = codes ",wrong pedal is seen"
+case_stakes OffsetPlate = codes ",wrong plate is seen"
+case_stakes OffsetLoad = codes ",wrong load is seen"
+case_stakes OffsetSpeed = codes ",wrong speed is seen"
+case_stakes OffsetWithin = codes ",level 2 errs to the safe side"
+case_stakes OffsetContact = codes ",level 2 errs to the safe side"
+case_stakes Bus = codes ",raise taken as 0"
+case_stakes Plate = codes ",torque not as ordered"
+case_stakes Skip = codes ",no answer is right"
+case_stakes Disturb = codes ",no answer is right"
+case_stakes Flip = codes ",a wrong word of level 2"
+case_stakes Halt = codes ",outputs stay as they are"
+case_stakes TimingOutside = codes ",no answer is right"
+case_stakes TimingInside = codes ",one verdict may be wrong"
+case_stakes WildOpens = codes ",cut without need"
+case_stakes WildNever = codes ",no cut by path 2"
+case_stakes Path1Driven = codes ",no cut by path 1"
+case_stakes Path1Tested = codes ",no cut by path 1"
+case_stakes Path2Driven = codes ",no cut by path 2"
+case_stakes Path2Tested = codes ",no cut by path 2"
+case_stakes PathOpen = codes ",cut without need"
+case_stakes Lapse = codes ",late cut"
 
--- within how many ticks it is found
-unfoldable pub within_text : Option ℕ → List ℕ
-within_text None = codes ",-"
-within_text (Some ticks) = codes "," ++ decimal ticks
+-- the watch that finds it, if one does
+unfoldable pub case_watch : CoverageCase → List ℕ
+case_watch ScriptPedal = codes "pedal"
+case_watch ScriptPlate = codes "plate"
+case_watch ScriptLoad = codes "load"
+case_watch ScriptSpeed = codes "speed"
+case_watch OffsetPedal = codes "pedal"
+case_watch OffsetPlate = codes "plate"
+case_watch OffsetLoad = codes "load"
+case_watch OffsetSpeed = codes "speed"
+case_watch Skip = codes "answers"
+case_watch Disturb = codes "answers"
+case_watch Flip = codes "mirror"
+case_watch Halt = codes "answers"
+case_watch TimingOutside = codes "answers"
+case_watch Path1Tested = codes "start"
+case_watch Path2Tested = codes "start"
+case_watch Lapse = codes "answers"
+case_watch _ = codes "-"
+
+-- which watch finds it, and within how many ticks, or that none need
+unfoldable pub found_text : CoverageCase → Option ℕ → List ℕ
+found_text case None = codes ",-,-"
+found_text case (Some ticks) = codes "," ++ (case_watch case ++ (codes "," ++ decimal ticks))
 
 -- when the stages are off
 unfoldable pub off_text : Off → List ℕ
@@ -164,16 +184,15 @@ off_text (Ordered ticks) = codes ",ordered + " ++ decimal ticks
 off_text (Excess ticks) = codes ",excess < " ++ decimal ticks
 
 -- whether it may stay hidden, and the end of the line
-unfoldable pub hidden_text : Option Bool → List ℕ
-hidden_text None = codes ",-\n"
-hidden_text (Some true) = codes ",1\n"
-hidden_text (Some false) = codes ",0\n"
+unfoldable pub hidden_text : Bool → List ℕ
+hidden_text true = codes ",1\n"
+hidden_text false = codes ",0\n"
 
 -- a row with the words of a case and these numbers
 abbrev pub numbers_line : CoverageCase → CoverageRow → List ℕ
 numbers_line case row =
     case_words case
-    ++ (case_stakes case ++ (within_text row.within ++ (off_text row.off ++ hidden_text row.hidden)))
+    ++ (case_stakes case ++ (found_text case row.within ++ (off_text row.off ++ hidden_text row.hidden)))
 
 -- the row of a case, and the rows of cases
 abbrev pub coverage_line : CoverageTicks → CoverageCase → List ℕ

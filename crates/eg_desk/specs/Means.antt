@@ -2,10 +2,11 @@
 -- each row holds of every run by its calibration under a valid fault of the row's class. And where a row says
 -- that faults can stay hidden, which ones: all of the class, or those that are named below. Rows of a record
 -- stand newest first.
-use Rattle.std.specs.Prelude.{◌≡◌, ◌==◌, ◌⊎◌, ℕ, ◌+◌, ◌≤◌, ◌<◌, Bool, true, false, not, ◌&&◌, max, nat_le, List, [], ◌∷◌, ◌++◌, All, length, Option, Some, None}
-use Rattle.eg_answer.specs.Times.{HasMissSpacing}
+use Rattle.std.specs.Prelude.{◌≡◌, ◌≢◌, ◌==◌, ◌⊎◌, ℕ, ◌+◌, ◌≤◌, ◌<◌, Bool, true, false, not, ◌&&◌, max, nat_le, List, [], ◌∷◌, ◌++◌, All, length, Option, Some, None}
+use Rattle.eg_answer.specs.Times.{feeds_to_confirm}
+use Rattle.eg_answer.specs.Periods.{place_of}
 use Rattle.eg_values.specs.Calibration.{CalibrationParts, IsAccepted}
-use Rattle.eg_values.specs.Excess.{BoundsLapses}
+use Rattle.eg_values.specs.Excess.{BoundsMissed}
 use Rattle.eg_plant.specs.declared.engine_kind.EngineKind.{EngineKind}
 use Rattle.eg_fault.specs.Faults.{effects, IsValid, opens_path}
 use Rattle.eg_fault.specs.Names.{name_of, class_index}
@@ -22,13 +23,13 @@ use Rattle.eg_model.specs.History.{Setting}
 use Rattle.eg_model.specs.Engines.{diesel, bench_of}
 use Rattle.eg_model.specs.Bench.{Run}
 use Rattle.eg_model.specs.Rows.{record_rows}
-use Rattle.eg_model.specs.Records.{IsRun, ExceedLast, ReactWithin}
+use Rattle.eg_model.specs.Records.{IsRun, ExcessIsBelow, ReactWithin}
 use Rattle.eg_laws.specs.Findings.{Finds}
-use Rattle.eg_laws.specs.Availability.{has_tripped}
+use Rattle.eg_laws.specs.Availability.{misses_tick, has_tripped}
 use Rattle.eg_laws.specs.PairsFound.{Pair, disagrees_at, has_found}
 use Rattle.eg_laws.specs.PairsFound.{Pedal as pedal_pair, Plate as plate_pair, Load as load_pair, Speed as speed_pair}
 use Rattle.eg_laws.specs.Coverage.{sends_outside, ClosedAreFound}
-use Rattle.eg_laws.specs.Latent.{CanStayHidden, SmallOffsetsHide, SmallScriptsHide, MovesInWindowHide, FarMissesHide}
+use Rattle.eg_laws.specs.Latent.{CanStayHidden, SmallOffsetsHide, SmallScriptsHide, MovesInWindowHide, single_miss, FarMissesHide}
 use Rattle.eg_desk.specs.declared.coverage.CoverageCase.{CoverageCase}
 use Rattle.eg_desk.specs.declared.coverage.CoverageCase.TheVariants as case
 use Rattle.eg_desk.specs.declared.coverage.CoverageRow.{CoverageRow}
@@ -71,9 +72,9 @@ OffOrdered (Ordered n) P = P n
 OffOrdered _ P = ⊥
 
 -- of `hidden`, which is 1
-abbrev pub HiddenIn : Option Bool → Type 0 → Type 0
-HiddenIn (Some true) P = P
-HiddenIn _ P = ⊥
+abbrev pub HiddenIn : Bool → Type 0 → Type 0
+HiddenIn true P = P
+HiddenIn false P = ⊥
 
 -- ---- the rows of a span that begins at tick `start`, or of its part up to any tick ----
 
@@ -113,10 +114,15 @@ CutsOrdered fault n start rows =
     rows ≡ later ++ row ∷ (between ++ ordered ∷ before) →
     (effects (Some fault) ordered.tick).opens ≡ true → n ≤ length between + 1 → row.on ≡ false
 
--- no stretch of true excess has n rows
-abbrev pub ExcessIsBelow : (threshold n start : ℕ) → List Row → Type 0
-ExcessIsBelow threshold n start rows =
-    (later before : List Row) (m : ℕ) → rows ≡ later ++ before → ExceedLast threshold m before → m < n
+-- Of a drive span: after each tick of it that level 2 misses, `answers` was found before each row from n
+-- ticks on; and the stages are off at these rows.
+abbrev pub FindsMisses : Fault → (n start : ℕ) → List Row → Type 0
+FindsMisses fault n start rows =
+    (tick : ℕ) → start ≤ tick → misses_tick (Some fault) tick ≡ true → FindsAnswersWithin tick n start rows
+
+abbrev pub CutsMisses : Fault → (n start : ℕ) → List Row → Type 0
+CutsMisses fault n start rows =
+    (tick : ℕ) → start ≤ tick → misses_tick (Some fault) tick ≡ true → IsOffFrom tick n start rows
 
 -- Of a drive span in which a flip comes: the stages are off from n ticks after it.
 abbrev pub IsOffAfterFlip : (onset n start : ℕ) → List Row → Type 0
@@ -151,7 +157,8 @@ AllHideAtRest cal meant =
 -- offsets within the tolerance of a pair stay hidden (there are none where it is 0; of a load's, those with
 -- which a raise of 10,000 and the threshold cover the estimate of the greatest load then read); so do scripts
 -- on a pedal or speed track, within the tolerance of its reading at rest; and so do send ticks that are moved
--- within the window, and lapses whose misses lie as far apart as `spacing` of `limits` says
+-- within the window, lapses of one tick that isn't a send tick, and lapses whose misses lie as far apart as
+-- `spacing` of `limits` says
 abbrev pub SmallOffsetsStay : Type 0
 SmallOffsetsStay = (engine : EngineKind) → SmallOffsetsHide (bench_of engine)
 
@@ -160,6 +167,11 @@ SmallScriptsStay = (engine : EngineKind) → SmallScriptsHide (bench_of engine)
 
 abbrev pub MovesStay : Type 0
 MovesStay = (engine : EngineKind) → MovesInWindowHide (bench_of engine)
+
+abbrev pub OneMissStays : CalibrationParts → Type 0
+OneMissStays cal =
+    IsAccepted cal → (tick : ℕ) → place_of cal.times tick ≢ cal.times.send → tick ≤ 19999 →
+    StaysHidden cal (single_miss tick)
 
 abbrev pub FarMissesStay : Type 0
 FarMissesStay = (engine : EngineKind) → FarMissesHide (bench_of engine)
@@ -183,40 +195,46 @@ MeansUnfound cal meant hides row = (row.within ≡ None) × HiddenIn row.hidden 
 
 -- the pair of the pedal is found, and the stages are off after a confirmed excess
 abbrev pub MeansPedal : CalibrationParts → (Class → Bool) → CoverageRow → Type 0
-MeansPedal cal meant row = (row.hidden ≡ Some false) × OfRuns cal meant (λ s fault rows.
+MeansPedal cal meant row = (row.hidden ≡ false) × OfRuns cal meant (λ s fault rows.
     FoundIn row.within (λ n. EachDriveSpan (FindsApart pedal_pair s n) rows)
     × OffConfirmed row.off (ReactsIn s rows))
 
 -- another pair is found and cut
 abbrev pub MeansApart : CalibrationParts → (Class → Bool) → Pair → CoverageRow → Type 0
-MeansApart cal meant pair row = (row.hidden ≡ Some false) × OfRuns cal meant (λ s fault rows.
+MeansApart cal meant pair row = (row.hidden ≡ false) × OfRuns cal meant (λ s fault rows.
     FoundIn row.within (λ n. EachDriveSpan (FindsApart pair s n) rows)
     × OffAfter row.off (λ n. EachDriveSpan (CutsApart pair s n) rows))
 
 -- the answers are found, and the stages are off, from the onset on
 abbrev pub MeansSpoiled : CalibrationParts → (Class → Bool) → CoverageRow → Type 0
-MeansSpoiled cal meant row = (row.hidden ≡ Some false) × OfRuns cal meant (λ s fault rows.
+MeansSpoiled cal meant row = (row.hidden ≡ false) × OfRuns cal meant (λ s fault rows.
     FoundIn row.within (λ n. EachDriveSpan (FindsAnswersWithin fault.onset n) rows)
     × OffAfter row.off (λ n. EachDriveSpan (IsOffFrom fault.onset n) rows))
 
 -- a test finds a path that is held closed, and the stages are off
 abbrev pub MeansTested : CalibrationParts → ClassName → CoverageRow → Type 0
-MeansTested cal name row = (row.hidden ≡ Some false) × OfRuns cal (is_of name) (λ s fault rows.
+MeansTested cal name row = (row.hidden ≡ false) × OfRuns cal (is_of name) (λ s fault rows.
     FoundIn row.within (λ n. FindsClosed fault n rows)
     × OffAfter row.off (λ n. EachTestSpan (IsOffSince n) rows))
 
--- that lapses can stay hidden, and that there is such a spacing of their misses; or that there is none
-abbrev pub MeansSpaced : CalibrationParts → Option Bool → Type 0
-MeansSpaced cal (Some true) = HasMissSpacing cal.times × FarMissesStay
-MeansSpaced cal None = ¬ HasMissSpacing cal.times
-MeansSpaced cal _ = ⊥
+-- a lapse is found, and the stages are off, after each tick that it leaves out
+abbrev pub MeansFoundLapse : CalibrationParts → CoverageRow → Type 0
+MeansFoundLapse cal row = (row.hidden ≡ false) × OfRuns cal (is_of name.Lapse) (λ s fault rows.
+    FoundIn row.within (λ n. EachDriveSpan (FindsMisses fault n) rows)
+    × OffAfter row.off (λ n. EachDriveSpan (CutsMisses fault n) rows))
 
--- how long an excess lasts under a lapse, or that there is no bound
-abbrev pub MeansLapse : CalibrationParts → Off → Type 0
-MeansLapse cal (Excess n) = OfRuns cal (is_of name.Lapse) (λ s fault rows.
+-- how long an excess lasts under a lapse, or that the calibration doesn't bound it
+abbrev pub MeansMissed : CalibrationParts → Off → Type 0
+MeansMissed cal (Excess n) = OfRuns cal (is_of name.Lapse) (λ s fault rows.
     EachDriveSpan (ExcessIsBelow s.cal.rules.threshold n) rows)
-MeansLapse cal Never = ¬ BoundsLapses cal
-MeansLapse cal _ = ⊥
+MeansMissed cal Never = ¬ BoundsMissed cal
+MeansMissed cal _ = ⊥
+
+-- a lapse can stay hidden: one of one tick that isn't a send tick does, and so do those whose misses lie far
+-- apart
+abbrev pub MeansHiddenLapse : CalibrationParts → CoverageRow → Type 0
+MeansHiddenLapse cal row =
+    (row.within ≡ None) × HiddenIn row.hidden (OneMissStays cal × FarMissesStay) × MeansMissed cal row.off
 
 -- What the numbers of the row of a case mean.
 unfoldable pub RowMeans : CalibrationParts → CoverageCase → CoverageRow → Type 0
@@ -240,7 +258,7 @@ RowMeans cal case.Bus row = MeansUnfound cal (is_of name.Bus) (AllHideAtRest cal
 RowMeans cal case.Plate row = MeansUnfound cal (is_of name.Plate) (AllHide cal (is_of name.Plate)) row
 RowMeans cal case.Skip row = MeansSpoiled cal (is_of name.Skip) row
 RowMeans cal case.Disturb row = MeansSpoiled cal (is_of name.Disturb) row
-RowMeans cal case.Flip row = (row.hidden ≡ Some false) × OfRuns cal (is_of name.Flip) (λ s fault rows.
+RowMeans cal case.Flip row = (row.hidden ≡ false) × OfRuns cal (is_of name.Flip) (λ s fault rows.
     FoundIn row.within (λ n. FindsFlip fault.onset n rows)
     × OffAfter row.off (λ n. EachDriveSpan (IsOffAfterFlip fault.onset n) rows))
 RowMeans cal case.Halt row = MeansSpoiled cal (is_of name.Halt) row
@@ -264,7 +282,8 @@ RowMeans cal case.PathOpen row = (row.within ≡ None) × HiddenIn row.hidden (A
     × OfRuns cal (is_of name.PathOpen) (λ s fault rows.
     OffAfter row.off (λ n. EachDriveSpan (IsOffFrom fault.onset n) rows))
 RowMeans cal case.Lapse row =
-    (row.within ≡ None) × MeansSpaced cal row.hidden × MeansLapse cal row.off
+    (feeds_to_confirm cal.times.weights ≡ 1 → MeansFoundLapse cal row)
+    × (feeds_to_confirm cal.times.weights ≢ 1 → MeansHiddenLapse cal row)
 
 -- the law: by each calibration the numbers of the row of each case mean that
 abbrev pub NumbersMean : Type 0

@@ -1,5 +1,5 @@
 -- `bound` writes a line for the worst-case reaction and one for the bound for lapses, `limits` these and
--- seven more, and `answers` a line for each question.
+-- eight more, and `answers` a line for each question.
 use Rattle.std.specs.Prelude.{ℕ, ◌+◌, List, [], ◌∷◌, ◌++◌, codes, decimal, Option, Some, None}
 use Rattle.eg_answer.specs.declared.questions.Question.{Question}
 use Rattle.eg_desk.specs.declared.limit.Limits.{Limits}
@@ -24,14 +24,15 @@ counts_text limits =
     ++ (codes "test " ++ decimal limits.test ++ codes "\n")
     ++ (codes "spacing " ++ number_or_none limits.spacing ++ codes "\n")
 
--- the lines of all limits: those six, two of how long an excess lasts and how great it is, and that of the
--- ramp
+-- the lines of all limits: those six, two of how long an excess lasts and how great it is, that of the ramp,
+-- and that of how long an excess lasts under lapses
 abbrev pub limits_text : Limits → List ℕ
 limits_text limits =
     counts_text limits
     ++ (codes "stretch " ++ decimal limits.stretch ++ codes "\n")
     ++ (codes "peak " ++ decimal limits.peak ++ codes "\n")
     ++ (codes "ramp " ++ number_or_none limits.ramp ++ codes "\n")
+    ++ (codes "missed " ++ number_or_none limits.missed ++ codes "\n")
 
 -- the line of the answer to question n
 abbrev pub answer_line : (n answer : ℕ) → List ℕ

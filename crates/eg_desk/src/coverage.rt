@@ -1,10 +1,10 @@
 // What finds each class of fault, and within which time.
-ghost use Rattle.std.specs.Prelude.{◌≡◌, ◌≤◌, ◌++◌, IfOk, OnOk, string_bytes};
+ghost use Rattle.std.specs.Prelude.{◌≡◌, ◌≤◌, ◌<◌, ◌++◌, IfSome, IfOk, OnOk, string_bytes};
 ghost use Rattle.eg_outcome.specs.Changes.{change_of};
-ghost use Rattle.eg_desk.specs.Coverage.{AreTicks, found, unfound, lapse_off, lapse_hidden, numbers_of, case_words, case_stakes, within_text, off_text, hidden_text, coverage_line, coverage_lines, coverage_text, TellsCoverage};
+ghost use Rattle.eg_desk.specs.Coverage.{AreTicks, found, unfound, lapse_off, lapse_numbers, numbers_of, case_words, case_stakes, case_watch, found_text, off_text, hidden_text, coverage_line, coverage_lines, coverage_text, TellsCoverage};
 
-use crate::limit::lapse_of;
-use eg_answer::{feeds_to_confirm, miss_spacing, reaction};
+use crate::limit::missed_of;
+use eg_answer::{feeds_to_confirm, reaction};
 use eg_base::{NoMemory, Sink};
 use eg_module::test_ticks;
 use eg_outcome::{Outcome, put_text};
@@ -144,34 +144,55 @@ impl CoverageCase {
         }
     }
 
-    /// The two behind them: what is at stake, and what finds it.
+    /// The one behind them: what is at stake.
     #[tactic(auto, unfolding(crate::specs::Coverage::case_stakes))]
     fn stakes(self) -> &'static str
         ensures { result.now ≡ case_stakes self }
     {
         match self {
-            CoverageCase::ScriptPedal | CoverageCase::OffsetPedal => ",wrong pedal is seen,pedal",
-            CoverageCase::ScriptPlate | CoverageCase::OffsetPlate => ",wrong plate is seen,plate",
-            CoverageCase::ScriptLoad | CoverageCase::OffsetLoad => ",wrong load is seen,load",
-            CoverageCase::ScriptSpeed | CoverageCase::OffsetSpeed => ",wrong speed is seen,speed",
+            CoverageCase::ScriptPedal | CoverageCase::OffsetPedal => ",wrong pedal is seen",
+            CoverageCase::ScriptPlate | CoverageCase::OffsetPlate => ",wrong plate is seen",
+            CoverageCase::ScriptLoad | CoverageCase::OffsetLoad => ",wrong load is seen",
+            CoverageCase::ScriptSpeed | CoverageCase::OffsetSpeed => ",wrong speed is seen",
             CoverageCase::ScriptWithin
             | CoverageCase::ScriptContact
             | CoverageCase::OffsetWithin
-            | CoverageCase::OffsetContact => ",level 2 errs to the safe side,-",
-            CoverageCase::Bus => ",raise taken as 0,-",
-            CoverageCase::Plate => ",torque not as ordered,-",
+            | CoverageCase::OffsetContact => ",level 2 errs to the safe side",
+            CoverageCase::Bus => ",raise taken as 0",
+            CoverageCase::Plate => ",torque not as ordered",
             CoverageCase::Skip | CoverageCase::Disturb | CoverageCase::TimingOutside => {
-                ",no answer is right,answers"
+                ",no answer is right"
             }
-            CoverageCase::Flip => ",a wrong word of level 2,mirror",
-            CoverageCase::Halt => ",outputs stay as they are,answers",
-            CoverageCase::TimingInside => ",one verdict may be wrong,-",
-            CoverageCase::WildOpens | CoverageCase::PathOpen => ",cut without need,-",
-            CoverageCase::WildNever | CoverageCase::Path2Driven => ",no cut by path 2,-",
-            CoverageCase::Path1Driven => ",no cut by path 1,-",
-            CoverageCase::Path1Tested => ",no cut by path 1,start",
-            CoverageCase::Path2Tested => ",no cut by path 2,start",
-            CoverageCase::Lapse => ",late cut,-",
+            CoverageCase::Flip => ",a wrong word of level 2",
+            CoverageCase::Halt => ",outputs stay as they are",
+            CoverageCase::TimingInside => ",one verdict may be wrong",
+            CoverageCase::WildOpens | CoverageCase::PathOpen => ",cut without need",
+            CoverageCase::Path1Driven | CoverageCase::Path1Tested => ",no cut by path 1",
+            CoverageCase::WildNever | CoverageCase::Path2Driven | CoverageCase::Path2Tested => {
+                ",no cut by path 2"
+            }
+            CoverageCase::Lapse => ",late cut",
+        }
+    }
+
+    /// The watch that finds it, if one does.
+    #[tactic(auto, unfolding(crate::specs::Coverage::case_watch))]
+    fn watch(self) -> &'static str
+        ensures { result.now ≡ case_watch self }
+    {
+        match self {
+            CoverageCase::ScriptPedal | CoverageCase::OffsetPedal => "pedal",
+            CoverageCase::ScriptPlate | CoverageCase::OffsetPlate => "plate",
+            CoverageCase::ScriptLoad | CoverageCase::OffsetLoad => "load",
+            CoverageCase::ScriptSpeed | CoverageCase::OffsetSpeed => "speed",
+            CoverageCase::Skip
+            | CoverageCase::Disturb
+            | CoverageCase::Halt
+            | CoverageCase::TimingOutside
+            | CoverageCase::Lapse => "answers",
+            CoverageCase::Flip => "mirror",
+            CoverageCase::Path1Tested | CoverageCase::Path2Tested => "start",
+            _ => "-",
         }
     }
 }
@@ -198,8 +219,8 @@ pub struct CoverageRow {
     pub within: Option<u32>,
     /// When the stages are off.
     pub off: Off,
-    /// Whether a run of any length may show nothing of it; None where nothing is known of it.
-    pub hidden: Option<bool>,
+    /// Whether a run of any length may show nothing of it.
+    pub hidden: bool,
 }
 
 /// What the numbers of all rows are made of.
@@ -211,24 +232,25 @@ pub struct CoverageTicks {
     pub reaction: u32,
     /// The tick of its span at which a start-up test reads the shut-off paths back.
     pub test: u32,
-    /// The bound for lapses, if there is one.
-    pub lapse: Option<u32>,
-    /// How far apart missed runs of level 2 never make wrong answers cut, if there is such a distance.
-    pub spacing: Option<u32>,
+    /// How many wrong verdicts in a row confirm.
+    pub verdicts: u32,
+    /// How many ticks in a row an excess lasts at the most under lapses, if that is bounded.
+    pub missed: Option<u32>,
 }
 
 /// What the numbers of the rows are made of, by this calibration.
 fn ticks_of(calibration: &Calibration) -> CoverageTicks
     ensures are { AreTicks calibration.now result }
     ensures test { result.test ≤ 1000000 }
+    ensures missed { IfSome result.missed (λ ticks. ticks < 200000000) }
 {
     let times = calibration.times();
     CoverageTicks {
         pair: feeds_to_confirm(&calibration.rules().pair),
         reaction: reaction(times),
         test: test_ticks(times),
-        lapse: lapse_of(calibration),
-        spacing: miss_spacing(times),
+        verdicts: feeds_to_confirm(times.weights()),
+        missed: missed_of(calibration),
     }
 }
 
@@ -239,7 +261,7 @@ fn found(within: u32, off: Off) -> CoverageRow
     CoverageRow {
         within: Some(within),
         off,
-        hidden: Some(false),
+        hidden: false,
     }
 }
 
@@ -250,36 +272,40 @@ fn unfound(off: Off) -> CoverageRow
     CoverageRow {
         within: None,
         off,
-        hidden: Some(true),
+        hidden: true,
     }
 }
 
 /// How long a true excess may last under a lapse, if the calibration bounds it.
 #[tactic(auto, unfolding(crate::specs::Coverage::lapse_off))]
-fn lapse_off(bound: Option<u32>) -> Off
-    ensures { result ≡ lapse_off bound }
+fn lapse_off(longest: Option<u32>) -> Off
+    requires { IfSome longest (λ ticks. ticks < 200000000) }
+    ensures { result ≡ lapse_off longest }
 {
-    match bound {
-        Some(bound) => Off::Excess(bound),
+    match longest {
+        Some(longest) => Off::Excess(longest + 1),
         None => Off::Never,
     }
 }
 
-/// Whether a lapse can stay hidden: where there is a distance at which its misses never cut.
-#[tactic(auto, unfolding(crate::specs::Coverage::lapse_hidden))]
-fn lapse_hidden(spacing: Option<u32>) -> Option<bool>
-    ensures { result ≡ lapse_hidden spacing }
+/// The numbers of the row of a lapse: it is found where one wrong verdict confirms, else it can stay hidden.
+#[tactic(auto, unfolding(crate::specs::Coverage::lapse_numbers))]
+fn lapse_numbers(ticks: &CoverageTicks) -> CoverageRow
+    requires { IfSome ticks.now.missed (λ ticks. ticks < 200000000) }
+    ensures { result ≡ lapse_numbers ticks.now }
 {
-    match spacing {
-        Some(_) => Some(true),
-        None => None,
+    if ticks.verdicts == 1 {
+        found(ticks.reaction, Off::After(ticks.reaction))
+    } else {
+        unfound(lapse_off(ticks.missed))
     }
 }
 
 /// The numbers of the row of a case (docs/FORMATS.md, "The rows of `coverage`").
 #[tactic(auto, unfolding(crate::specs::Coverage::numbers_of))]
 fn numbers_of(ticks: &CoverageTicks, case: CoverageCase) -> CoverageRow
-    requires { ticks.now.test ≤ 1000000 }
+    requires test { ticks.now.test ≤ 1000000 }
+    requires missed { IfSome ticks.now.missed (λ ticks. ticks < 200000000) }
     ensures { result ≡ numbers_of ticks.now case }
 {
     match case {
@@ -303,11 +329,7 @@ fn numbers_of(ticks: &CoverageTicks, case: CoverageCase) -> CoverageRow
         CoverageCase::WildOpens => unfound(Off::Ordered(1)),
         CoverageCase::Path1Driven => unfound(Off::Confirmed(ticks.reaction)),
         CoverageCase::PathOpen => unfound(Off::After(0)),
-        CoverageCase::Lapse => CoverageRow {
-            within: None,
-            off: lapse_off(ticks.lapse),
-            hidden: lapse_hidden(ticks.spacing),
-        },
+        CoverageCase::Lapse => lapse_numbers(ticks),
         _ => unfound(Off::Confirmed(1)),
     }
 }
@@ -326,7 +348,8 @@ pub fn put_coverage<K: Sink>(alloc: Global, calibration: &Calibration, out: &mut
 /// The header and all rows.
 #[tactic(auto, unfolding(crate::specs::Coverage::coverage_text))]
 fn coverage_text(alloc: Global, ticks: &CoverageTicks) -> Result<String, NoMemory>
-    requires { ticks.now.test ≤ 1000000 }
+    requires test { ticks.now.test ≤ 1000000 }
+    requires missed { IfSome ticks.now.missed (λ ticks. ticks < 200000000) }
     ensures { IfOk result (λ text. string_bytes text ≡ coverage_text ticks.now) }
 {
     let mut text = String::new(alloc);
@@ -341,7 +364,8 @@ fn push_rows(
     ticks: &CoverageTicks,
     cases: &[CoverageCase],
 ) -> Result<(), AllocError>
-    requires { ticks.now.test ≤ 1000000 }
+    requires test { ticks.now.test ≤ 1000000 }
+    requires missed { IfSome ticks.now.missed (λ ticks. ticks < 200000000) }
     ensures { OnOk result (string_bytes text.new
         ≡ string_bytes text.old ++ coverage_lines ticks.now cases.now) }
 {
@@ -353,25 +377,26 @@ fn push_rows(
 
 /// Appends the row of a case.
 fn push_row(text: &mut String, ticks: &CoverageTicks, case: CoverageCase) -> Result<(), AllocError>
-    requires { ticks.now.test ≤ 1000000 }
+    requires test { ticks.now.test ≤ 1000000 }
+    requires missed { IfSome ticks.now.missed (λ ticks. ticks < 200000000) }
     ensures { OnOk result (string_bytes text.new ≡ string_bytes text.old ++ coverage_line ticks.now case) }
 {
     let row = numbers_of(ticks, case);
     text.push_str(case.words())?;
     text.push_str(case.stakes())?;
-    push_within(text, row.within)?;
+    push_found(text, case, row.within)?;
     push_off(text, row.off)?;
     push_hidden(text, row.hidden)
 }
 
-/// Appends within how many ticks it is found, or `-`.
-#[tactic(auto, unfolding(crate::specs::Coverage::within_text))]
-fn push_within(text: &mut String, within: Option<u32>) -> Result<(), AllocError>
-    ensures { OnOk result (string_bytes text.new ≡ string_bytes text.old ++ within_text within) }
+/// Appends which watch finds it and within how many ticks, or `-` twice.
+#[tactic(auto, unfolding(crate::specs::Coverage::found_text))]
+fn push_found(text: &mut String, case: CoverageCase, within: Option<u32>) -> Result<(), AllocError>
+    ensures { OnOk result (string_bytes text.new ≡ string_bytes text.old ++ found_text case within) }
 {
     match within {
-        Some(ticks) => write!(text, ",{ticks}"),
-        None => text.push_str(",-"),
+        Some(ticks) => write!(text, ",{},{ticks}", case.watch()),
+        None => text.push_str(",-,-"),
     }
 }
 
@@ -389,14 +414,14 @@ fn push_off(text: &mut String, off: Off) -> Result<(), AllocError>
     }
 }
 
-/// Appends whether it may stay hidden, or `-`, and the end of the line.
+/// Appends whether it may stay hidden, and the end of the line.
 #[tactic(auto, unfolding(crate::specs::Coverage::hidden_text))]
-fn push_hidden(text: &mut String, hidden: Option<bool>) -> Result<(), AllocError>
+fn push_hidden(text: &mut String, hidden: bool) -> Result<(), AllocError>
     ensures { OnOk result (string_bytes text.new ≡ string_bytes text.old ++ hidden_text hidden) }
 {
-    match hidden {
-        Some(true) => text.push_str(",1\n"),
-        Some(false) => text.push_str(",0\n"),
-        None => text.push_str(",-\n"),
+    if hidden {
+        text.push_str(",1\n")
+    } else {
+        text.push_str(",0\n")
     }
 }

@@ -1,11 +1,11 @@
 // What a calibration comes to.
-ghost use Rattle.std.specs.Prelude.{SomeIff};
+ghost use Rattle.std.specs.Prelude.{◌<◌, ◌↔◌, IsTrue, SomeIff, IfSome};
 ghost use Rattle.eg_answer.specs.Times.{lapse_bound_of};
-ghost use Rattle.eg_values.specs.Excess.{BoundsLapses};
+ghost use Rattle.eg_values.specs.Excess.{BoundsLapses, BoundsMissed, longest_missed};
 ghost use Rattle.eg_desk.specs.Limits.{AreLimits};
 
 use crate::excess::{greatest_excess, longest_stretch, ramp_ticks};
-use eg_answer::{feeds_to_confirm, lapse_bound, miss_spacing, reaction};
+use eg_answer::{feeds_to_confirm, lapse_bound, longest_missed, miss_spacing, reaction};
 use eg_module::test_ticks;
 use eg_torque::NO_RAMP;
 use eg_values::Calibration;
@@ -23,9 +23,8 @@ pub struct Limits {
     pub excess: u32,
     /// The tick of its span at which a start-up test reads the shut-off paths back.
     pub test: u32,
-    /// Missed runs of level 2 that lie so many ticks apart never make wrong answers cut before a watch trips.
-    /// It is the least number of whole periods that is proved to be enough, if there is one; fewer ticks may
-    /// be enough.
+    /// Missed runs of level 2 that lie so many ticks apart never make wrong answers cut before a watch trips,
+    /// if there is such a number.
     pub spacing: Option<u32>,
     /// How many ticks in a row an excess lasts at the most, without a fault or under a listed one.
     pub stretch: u32,
@@ -35,6 +34,9 @@ pub struct Limits {
     /// How many ticks the ramp takes from the permit table's greatest number to its least, rounded up: 0
     /// without a ramp, and None where the ramp never comes down.
     pub ramp: Option<u32>,
+    /// How many ticks in a row an excess lasts at the most where level 2 misses ticks, whichever they are, if
+    /// that is bounded.
+    pub missed: Option<u32>,
 }
 
 /// What a calibration comes to (docs/CONCEPT.md, "Worst-case reaction", "Lapses" and "Why the unit reacts").
@@ -54,6 +56,7 @@ pub fn limits_of(calibration: &Calibration) -> Limits
         stretch: longest_stretch(calibration),
         peak: greatest_excess(calibration),
         ramp: ramp_ticks(calibration.rules()),
+        missed: missed_of(calibration),
     }
 }
 
@@ -67,4 +70,27 @@ pub(crate) fn lapse_of(calibration: &Calibration) -> Option<u32>
         return None;
     }
     lapse_bound(&rules.torque, calibration.times())
+}
+
+/// How many ticks in a row an excess lasts at the most under lapses, if the calibration bounds it
+/// (docs/CONCEPT.md, "Lapses").
+pub(crate) fn missed_of(calibration: &Calibration) -> Option<u32>
+    ensures longest { SomeIff result (BoundsMissed calibration.now) (longest_missed calibration.now) }
+    ensures within { IfSome result (λ ticks. ticks < 200000000) }
+{
+    if bounds_missed(calibration) {
+        Some(longest_missed(&calibration.rules().torque, calibration.times()))
+    } else {
+        None
+    }
+}
+
+/// Whether the calibration bounds how long an excess lasts under lapses: without a ramp, with one that never
+/// comes down, or where one wrong verdict confirms.
+fn bounds_missed(calibration: &Calibration) -> bool
+    ensures { IsTrue result ↔ BoundsMissed calibration.now }
+{
+    let fall = calibration.rules().fall;
+    let verdicts = feeds_to_confirm(calibration.times().weights());
+    fall == NO_RAMP || fall == 0 || verdicts == 1
 }

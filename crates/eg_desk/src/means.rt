@@ -6,8 +6,9 @@ ghost use Rattle.eg_desk.specs.Means.{NumbersMean};
 /// its watch is found within `within` ticks, and the stages are off as `off` says. Where `hidden` is 1, such
 /// faults can stay hidden by each accepted calibration: all valid ones of the class, or those that the
 /// definition names, of a script within the tolerance those on a track of the pedal or of the speed; under
-/// `bus` and at a contact of the brake on the diesel engine. Of lapses it is 1 exactly if the calibration has
-/// a spacing of misses. It does nothing when it runs.
+/// `bus` and at a contact of the brake on the diesel engine. Of lapses it is 1 exactly if one wrong verdict
+/// isn't enough to confirm, and then one missed tick that isn't a send tick can stay hidden. It does nothing
+/// when it runs.
 pub fn numbers_mean()
     ensures { NumbersMean }
 {}

@@ -65,6 +65,7 @@ fn limits_text(alloc: Global, limits: &Limits) -> Result<String, NoMemory>
     write!(text, "stretch {}\n", limits.stretch)?;
     write!(text, "peak {}\n", limits.peak)?;
     push_line(&mut text, "ramp ", limits.ramp)?;
+    push_line(&mut text, "missed ", limits.missed)?;
     Ok(text)
 }
 

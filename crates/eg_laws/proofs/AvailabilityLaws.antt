@@ -25,12 +25,13 @@ use Rattle.eg_model.proofs.TripLemmas.{fed_bits-skip}
 use Rattle.eg_model.proofs.LapseRuns.{AllOrNone, AllOrNoneEach, lapse_all_or_none, trip_opens}
 use Rattle.eg_model.proofs.ClassLemmas.{of_history}
 use Rattle.eg_laws.proofs.MissTicks.{missed, as_tick, to_tick, lapse_tick, lapse_conducts, missed-feeds, missed-pair, missed-trip}
-use Rattle.eg_laws.proofs.MissVerdicts.{recovering}
+use Rattle.eg_laws.proofs.MissVerdicts.{spaced_spares, recovering}
 
 -- ---- a trip alone cuts ----
 
 pub keeps_path_2 : KeepsPath2
-keeps_path_2 s accepted start h lapse follows untripped = (recovering s accepted start h lapse follows untripped).closed
+keeps_path_2 s accepted start h lapse follows untripped =
+    (recovering s accepted start h (spaced_spares s start (start + length h) lapse) follows untripped).closed
 
 runs_or_none : (s : Setting) → IsLapse s.fault → (start : ℕ) (h : List Tick) → Follows s.fault start h → AllOrNoneEach h
 runs_or_none s lapse start h follows = of_history AllOrNone s.fault start h follows (λ t low high. lapse_all_or_none s.fault lapse t)

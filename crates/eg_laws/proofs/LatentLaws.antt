@@ -1,6 +1,7 @@
 -- Which faults can stay hidden: in the run at rest with the greatest raise no excess can be, and each class leaves alone what
 -- the pairs are judged by.
-use Rattle.std.proofs.Common.{◌≡◌, ◌∙◌, refl, sym, ap, subst, ℕ, ◌+◌, ◌-◌, ◌*◌, ◌/◌, ◌≤◌, ◌<◌, Bool, true, false, not, ◌&&◌, List, [], ◌∷◌, take, length, arith, inl, inr, ◌⊎◌, Some, None, IfSome, is_some, lit≤, min, max, nat_lt}
+use Rattle.std.proofs.lemmas.List.Elements.{All-cons, All-nil}
+use Rattle.std.proofs.Common.{◌≡◌, ◌∙◌, refl, sym, ap, subst, ℕ, ◌+◌, ◌-◌, ◌*◌, ◌/◌, ◌≤◌, ◌<◌, Bool, true, false, not, ◌&&◌, List, [], ◌∷◌, take, length, arith, inl, inr, ◌⊎◌, Some, None, IfSome, is_some, lit≤, min, max, nat_lt, ◌%◌}
 use Rattle.std.specs.Prelude.{if◌then◌else◌, slice_index}
 use Rattle.std.proofs.Math.Nat.{mul-le-mul}
 use Rattle.std.proofs.lemmas.Bool.{cases_lt, le-ltb, and_right, or_parts, false≢true}
@@ -10,12 +11,14 @@ use Rattle.eg_num.specs.Interpolation.{grid_at}
 use Rattle.eg_torque.specs.Permit.{permitted}
 use Rattle.eg_sensor.specs.Readings.{sound_readings}
 use Rattle.eg_sensor.specs.declared.readings.Readings.{Readings}
-use Rattle.eg_answer.specs.Times.{miss_spacing_of}
+use Rattle.eg_answer.specs.Times.{HasMissSpacing, miss_spacing_of}
+use Rattle.eg_answer.specs.Periods.{place_of}
+use Rattle.eg_model.specs.Lapses.{IsLapse}
 use Rattle.eg_answer.specs.Periods.{verdict_of}
 use Rattle.eg_answer.specs.Formulas.{permitted_torque, estimated_torque, disagreeing_pairs}
 use Rattle.eg_values.specs.Calibration.{CalibrationParts, IsAccepted}
 use Rattle.eg_fault.specs.Effects.{Effects, no_effects, readings_under, contacts_under}
-use Rattle.eg_fault.specs.Faults.{effects_of, effects, is_lapse, IsValid, IsListed}
+use Rattle.eg_fault.specs.Faults.{effects_of, effects, is_lapse, IsValid, IsListed, IsValidClass}
 use Rattle.eg_fault.specs.Classes.{may_change_answers}
 use Rattle.eg_fault.specs.Running.{may_change_levels}
 use Rattle.eg_fault.specs.declared.class.Class.{Class}
@@ -34,14 +37,15 @@ use Rattle.eg_model.specs.Branching.{under}
 use Rattle.eg_model.specs.Reaction.{spoils_answers}
 use Rattle.eg_plant.specs.declared.engine_kind.EngineKind.{EngineKind}
 use Rattle.eg_laws.specs.SharpUnder.{leaves_readings}
-use Rattle.eg_laws.specs.Latent.{always_hides, ReadingsApartHide, FarMissesHide, SingleMissesHide}
+use Rattle.eg_laws.specs.Latent.{always_hides, CanStayHidden, ReadingsApartHide, FarMissesHide, SingleMissesHide, single_miss, OneMissHides}
+use Rattle.eg_laws.specs.Availability.{misses_tick, MissesAreSpaced}
 use Rattle.eg_model.proofs.TickLemmas.{Each, fields}
 use Rattle.eg_model.proofs.BrakeLemmas.{plain_readings}
 use Rattle.eg_model.proofs.BranchLaws.{moment_in-under, moments_in-under}
 use Rattle.eg_model.proofs.Silence.{latch2-cons}
 use Rattle.eg_laws.proofs.SharpUnderLaws.{ActAlike, act_class, act_plain}
-use Rattle.eg_laws.proofs.AvailabilityLaws.{keeps_path_2}
-use Rattle.eg_laws.proofs.SingleMisses.{single_misses_are_spaced}
+use Rattle.eg_laws.proofs.SingleMisses.{single_misses_are_spaced, misses_once}
+use Rattle.eg_laws.proofs.MissVerdicts.{SparesVerdicts, spaced_spares, recovering}
 use Rattle.eg_laws.proofs.MissTicks.{missed, lapse_tick}
 use Rattle.eg_laws.proofs.LatentTicks.{GivesNothing, GiveNothing, still_after, no_answers_found}
 use Rattle.eg_laws.proofs.LatentRuns.{Comes, still_run, follow_ticks, each_tick, come_to, AnswersUnfound, hidden_run}
@@ -228,6 +232,18 @@ answers_always s accepted f valid is hides x h each follows = elim (wild_or_not 
   | inr other ↦ answers_spared s accepted f valid is other x h each follows
 ]
 
+valid_miss : (tick : ℕ) → tick ≤ 19999 → IsValid (single_miss tick)
+unfolding IsValidClass
+valid_miss tick within = (
+  within,
+  (
+    (omega arith, omega arith),
+    All-cons (λ k. k ≤ 19999) 0 [] (omega arith) (All-nil (λ k. k ≤ 19999)),
+    (λ k l. absurd (omega (arith, l))),
+    omega arith,
+  ),
+)
+
 module _ (engine : EngineKind) where
   pub readings_apart_hide : ReadingsApartHide (bench_of engine)
   readings_apart_hide cal accepted f valid hides n = hidden_run engine cal accepted f valid loud loud_within refl n each
@@ -249,8 +265,10 @@ module _ (engine : EngineKind) where
           (entries_to (bench_of engine) (still_run cal f loud n) n)
           (come_to engine cal accepted f valid loud loud_within n n (omega arith))
 
-  pub far_misses_hide : FarMissesHide (bench_of engine)
-  far_misses_hide cal accepted f valid apart n = hidden_run engine cal accepted f valid loud loud_within refl n each
+  -- a lapse that spares verdicts up to each tick
+  spared_hide : (cal : CalibrationParts) → IsAccepted cal → (f : Fault) → IsValid f → (lapse : IsLapse (Some f)) →
+      ((s : Setting) → s.cal ≡ cal → s.fault ≡ Some f → (end : ℕ) → SparesVerdicts s 0 end) → CanStayHidden (bench_of engine) cal f
+  spared_hide cal accepted f valid lapse spares n = hidden_run engine cal accepted f valid loud loud_within refl n each
       (answers_of s h each follows answers)
     where
       s : Setting
@@ -263,7 +281,7 @@ module _ (engine : EngineKind) where
       follows = follow_ticks s (entries_to (bench_of engine) (still_run cal f loud n) n)
 
       now : (e : Entry) (t : ℕ) → Comes loud e → GivesNothing cal (record { effects = effects (Some f) t; entry = e })
-      now e t comes = elim (lapse_tick (Some f) apart.lapse t) [
+      now e t comes = elim (lapse_tick (Some f) lapse t) [
         | inl plain ↦ subst (λ x. GivesNothing cal (record { effects = x; entry = e })) (sym plain)
             (gives_alike cal accepted e comes no_effects act_plain)
         | inr out ↦ subst (λ x. GivesNothing cal (record { effects = x; entry = e })) (sym out)
@@ -286,9 +304,17 @@ module _ (engine : EngineKind) where
           m = moment s x.effects x.entry past
 
           closed : latch2 (m ∷ past) ≡ false
-          closed = unfold moments_of in keeps_path_2 s accepted 0 (x ∷ before)
-              (record { has = apart.has; lapse = apart.lapse; spaced = apart.spaced (0 + length (x ∷ before)) }) on
-              (still_after s accepted (x ∷ before) all).untripped
+          closed = unfold moments_of in (recovering s accepted 0 (x ∷ before) (spares s refl refl (0 + length (x ∷ before))) on
+              (still_after s accepted (x ∷ before) all).untripped).closed
+
+  pub far_misses_hide : FarMissesHide (bench_of engine)
+  far_misses_hide cal accepted f valid apart = spared_hide cal accepted f valid apart.lapse (λ s cal_is fault_is end.
+      spaced_spares s 0 end (record {
+        has = subst (λ (c : CalibrationParts). HasMissSpacing c.times) (sym cal_is) apart.has;
+        lapse = subst IsLapse (sym fault_is) apart.lapse;
+        spaced = subst (λ c. MissesAreSpaced s.fault (miss_spacing_of c.times) 0 end) (sym cal_is)
+            (subst (λ g. MissesAreSpaced g (miss_spacing_of cal.times) 0 end) (sym fault_is) (apart.spaced end));
+      }))
 
   pub single_misses_hide : SingleMissesHide (bench_of engine)
   single_misses_hide cal accepted has onset after every apart valid = far_misses_hide cal accepted
@@ -296,4 +322,24 @@ module _ (engine : EngineKind) where
         has = has;
         lapse = record { onset = onset; after = after ∷ []; every = every; is = refl };
         spaced = λ end. single_misses_are_spaced onset after every (miss_spacing_of cal.times) 0 end apart;
+      })
+
+  -- a single tick that is no send tick
+  pub one_miss_hides : OneMissHides (bench_of engine)
+  unfolding place_of
+  one_miss_hides cal accepted few tick off within = spared_hide cal accepted (single_miss tick)
+      (valid_miss tick within) (record { onset = tick; after = 0 ∷ []; every = 0; is = refl })
+      (λ s cal_is fault_is end. record {
+        lapse = record { onset = tick; after = 0 ∷ []; every = 0; is = fault_is };
+        most = 1;
+        some = omega arith;
+        small = omega arith;
+        few = subst (λ (c : CalibrationParts). 1 * c.times.weights.up < c.times.weights.limit) (sym cal_is) (omega (arith, few));
+        sent = λ t before out place. absurd (off (subst (λ (c : CalibrationParts). tick % c.times.period ≡ c.times.send) cal_is
+            (subst (λ n. n % s.cal.times.period ≡ s.cal.times.send)
+            (let once = misses_once tick (0 + t) (subst (λ g. misses_tick g (0 + t) ≡ true) fault_is out) in
+            let same : t ≡ tick = omega (arith, once) in same) place)));
+        apart = λ first second from before one two less. absurd (
+            let a = misses_once tick first (subst (λ g. misses_tick g first ≡ true) fault_is one) in
+            let b = misses_once tick second (subst (λ g. misses_tick g second ≡ true) fault_is two) in omega (arith, a, b, less));
       })

@@ -13,6 +13,7 @@ pub mod MissWeights
 pub mod MissTicks
 pub mod SingleMisses
 pub mod MissVerdicts
+pub mod SilentMisses
 pub mod TripRows
 pub mod PairsFoundLaws
 pub mod SharpUnderLaws
@@ -20,6 +21,10 @@ pub mod AvailabilityLaws
 pub mod AvailabilityRecords
 pub mod ShortStretches
 pub mod LeastLapseLaw
+pub mod MissedRuns
+pub mod WrongVerdicts
+pub mod OneVerdict
+pub mod MissedStretchLaws
 pub mod StretchLaws
 pub mod LongestStretch
 pub mod BurstLaws

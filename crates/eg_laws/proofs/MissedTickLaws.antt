@@ -44,27 +44,24 @@ lapse_opens_none fault lapse tick = ap (λ f. opens_by_itself f tick) lapse.is
 -- ---- no answer is good ----
 
 -- two numbers of one place lie a period apart
-apart : (period u v : ℕ) → 0 < period → u % period ≡ v % period → u < v → u + period ≤ v
+pub apart : (period u v : ℕ) → 0 < period → u % period ≡ v % period → u < v → u + period ≤ v
 apart zero u v some same less = absurd (omega (arith, some))
 apart (suc n) u v some same less = turn_apart u v n same less
 
-module _ (s : Setting) (accepted : IsAccepted s.cal) (keeps : KeepsMissing s.fault s.cal.times.period) (start : ℕ) where
+module _ (s : Setting) (accepted : IsAccepted s.cal) (lapse : IsLapse s.fault) (start : ℕ) where
   abbrev period : ℕ
   period = s.cal.times.period
 
-  some : 0 < period
-  some = period_least s.cal.times accepted.times
-
-  regular : (t : ℕ) → IsRegular (effects s.fault t)
-  regular = lapse_regular s.fault keeps.lapse
+  pub regular : (t : ℕ) → IsRegular (effects s.fault t)
+  regular = lapse_regular s.fault lapse
 
   -- at a tick that is missed not all modules run
-  not_whole : (x : Tick) (t : ℕ) → x.effects ≡ effects s.fault t → misses_tick s.fault t ≡ true → is_whole x.effects ≡ true → ⊥
+  pub not_whole : (x : Tick) (t : ℕ) → x.effects ≡ effects s.fault t → misses_tick s.fault t ≡ true → is_whole x.effects ≡ true → ⊥
   unfolding misses_tick
   not_whole x t is misses whole = true≢false (sym misses ∙ ap not (sym (ap is_whole is) ∙ whole))
 
   -- nor have all run since the last answer where a tick was missed and no send tick came since
-  stale : (h : List Tick) → Follows s.fault start h → (missed : ℕ) → start ≤ missed → missed < start + length h →
+  pub stale : (h : List Tick) → Follows s.fault start h → (missed : ℕ) → start ≤ missed → missed < start + length h →
       misses_tick s.fault missed ≡ true → ((t : ℕ) → missed ≤ start + t → t < length h → t % period ≢ s.cal.times.send) →
       whole_since_answer (moments_of s h) ≡ true → ⊥
   unfolding Follows moments_of
@@ -90,22 +87,26 @@ module _ (s : Setting) (accepted : IsAccepted s.cal) (keeps : KeepsMissing s.fau
           ∙ absent_off_place s.cal.times x.effects now.trip past
           (subst IsRegular (sym follows.0) (regular (start + length h))) place) whole
 
+module _ (s : Setting) (accepted : IsAccepted s.cal) (keeps : KeepsMissing s.fault s.cal.times.period) (start : ℕ) where
+  some : 0 < s.cal.times.period
+  some = period_least s.cal.times accepted.times
+
   module _ (first : ℕ) (from : start ≤ first) (out : misses_tick s.fault first ≡ true) where
     -- of the last `period` ticks of the span one was missed
     record IsNear (tick : ℕ) : Type 0 where
       pub missed : ℕ
       pub low : start ≤ missed
       pub by : missed ≤ tick
-      pub soon : tick < missed + period
+      pub soon : tick < missed + s.cal.times.period
       pub misses : misses_tick s.fault missed ≡ true
 
     near : (tick : ℕ) → first ≤ tick → IsNear tick
-    near tick late = elim (cases_lt tick (first + period)) [
+    near tick late = elim (cases_lt tick (first + s.cal.times.period)) [
       | inl soon ↦ record { missed = first; low = from; by = late; soon = soon; misses = out }
-      | inr long ↦ last (keeps.again first (tick + 1 - period) out (omega (arith, long))) long
+      | inr long ↦ last (keeps.again first (tick + 1 - s.cal.times.period) out (omega (arith, long))) long
     ]
       where
-        last : MissesOneOf s.fault period (tick + 1 - period) → first + period ≤ tick → IsNear tick
+        last : MissesOneOf s.fault s.cal.times.period (tick + 1 - s.cal.times.period) → first + s.cal.times.period ≤ tick → IsNear tick
         last one long = record {
           missed = one.missed;
           low = omega (arith, from, one.from, long);
@@ -118,8 +119,8 @@ module _ (s : Setting) (accepted : IsAccepted s.cal) (keeps : KeepsMissing s.fau
         (moment s x.effects x.entry (moments_of s h)).mark ≢ Good
     unfolding Follows is_good_mark
     not_good x h follows late good = elim (cases_lt n.missed (start + length h)) [
-      | inl earlier ↦ stale h follows.1 n.missed n.low earlier n.misses unsent parts.1
-      | inr last ↦ not_whole x (start + length h) follows.0
+      | inl earlier ↦ stale s accepted keeps.lapse start h follows.1 n.missed n.low earlier n.misses unsent parts.1
+      | inr last ↦ not_whole s accepted keeps.lapse start x (start + length h) follows.0
           (subst (λ t. misses_tick s.fault t ≡ true) (omega (arith, last, n.by)) n.misses) parts.0
     ]
       where
@@ -138,13 +139,13 @@ module _ (s : Setting) (accepted : IsAccepted s.cal) (keeps : KeepsMissing s.fau
         parts : (is_whole x.effects ≡ true) × (whole_since_answer past ≡ true)
         parts = whole_where_good s.cal.times x.effects m.trip past (ap is_good_mark mark_is)
 
-        place : length h % period ≡ s.cal.times.send
-        place = ap (λ k. k % period) (sym (length-moments s h)) ∙ sent_at_place s.cal.times x.effects m.trip past
-            (subst IsRegular (sym follows.0) (regular (start + length h)))
+        place : length h % s.cal.times.period ≡ s.cal.times.send
+        place = ap (λ k. k % s.cal.times.period) (sym (length-moments s h)) ∙ sent_at_place s.cal.times x.effects m.trip past
+            (subst IsRegular (sym follows.0) (lapse_regular s.fault keeps.lapse (start + length h)))
             (λ absent. let both : Absent ≡ Good = sym absent ∙ mark_is in cc)
 
-        unsent : (t : ℕ) → n.missed ≤ start + t → t < length h → t % period ≢ s.cal.times.send
-        unsent t low less same = let far = apart period t (length h) some (same ∙ sym place) less in
+        unsent : (t : ℕ) → n.missed ≤ start + t → t < length h → t % s.cal.times.period ≢ s.cal.times.send
+        unsent t low less same = let far = apart s.cal.times.period t (length h) some (same ∙ sym place) less in
             omega (arith, far, low, n.soon)
 
     none_good : (more before : List Tick) → Follows s.fault start (more ++ before) → first ≤ start + length before → NoGood s more before
@@ -162,7 +163,7 @@ module _ (s : Setting) (accepted : IsAccepted s.cal) (keeps : KeepsMissing s.fau
         is_on_after s h x ≡ false
     off_on x h follows late = subst (λ g. is_on_after s g x ≡ false) (sym cut.whole)
         (off_after_silence s accepted.times (omega (arith, accepted.answers.0)) (omega (arith, accepted.answers.3)) cut.more cut.rest
-        (subst AreRegular cut.whole (of_history IsRegular s.fault start h past (λ t low high. regular t)))
+        (subst AreRegular cut.whole (of_history IsRegular s.fault start h past (λ t low high. lapse_regular s.fault keeps.lapse t)))
         (none_good cut.more cut.rest (subst (Follows s.fault start) cut.whole past) (omega (arith, cut.size, from)))
         (let sum = ap length cut.whole ∙ length-append cut.more cut.rest in omega (arith, sum, cut.size, late, from)) x
         (ap (λ (y : Effects). y.conducts PATH_2 true) now ∙ lapse_conducts s.fault keeps.lapse (start + length h) PATH_2 true))

@@ -3,7 +3,7 @@ use Rattle.std.proofs.Common.{◌≡◌, ◌∙◌, refl, sym, ap, subst, ℕ, �
 use Rattle.std.proofs.lemmas.Bool.{true≢false, ne_eqb}
 use Rattle.std.proofs.Math.Nat.{mod-lt, lt-div-mul-add, div-mul-le_self, add-mul-mod_self_right}
 use Rattle.eg_num.specs.Windows.{first_index}
-use Rattle.eg_answer.specs.Times.{reaction_of}
+use Rattle.eg_answer.specs.Times.{feeds_to_confirm, reaction_of}
 use Rattle.eg_values.specs.Calibration.{IsAccepted}
 use Rattle.eg_plant.specs.PlantParts.{PlantParts}
 use Rattle.eg_fault.specs.Effects.{no_effects}
@@ -19,9 +19,9 @@ use Rattle.eg_model.specs.Premises.{Follows, AreProper, is_on_after, true_excess
 use Rattle.eg_model.specs.Records.{ReactWithin}
 use Rattle.eg_model.specs.Engines.{BenchEngine, KeepsBenchLaws}
 use Rattle.eg_laws.specs.Availability.{misses_tick}
-use Rattle.eg_laws.specs.MissedTicks.{KeepsMissing, LapsesKeepMissing, NeverRunsAgain, CutForGood, MissesAreCut, RecordsCutMisses, RecordsCutForGood}
+use Rattle.eg_laws.specs.MissedTicks.{KeepsMissing, LapsesKeepMissing, NeverRunsAgain, CutForGood, MissesAreCut, RecordsCutMisses, RecordsCutForGood, MissesOpenPath2, RecordsOpenPath2}
 use Rattle.eg_model.proofs.Silence.{period_least}
-use Rattle.eg_model.proofs.SpanRows.{Between, between, follows-end, proper-end, SpanRows, row_on, row_tick, all_rows, true_unnumbered, bits_after, IsFirstAt, first_confirms}
+use Rattle.eg_model.proofs.SpanRows.{Between, between, follows-end, proper-end, SpanRows, RowAfter, row_on, row_tick, all_rows, true_unnumbered, bits_after, IsFirstAt, first_confirms}
 use Rattle.eg_model.proofs.SpanLaws.{reaction_least}
 use Rattle.eg_model.proofs.RecordSpans.{SpanTo}
 use Rattle.eg_model.proofs.RecordLaws.{each_drive, proper_span}
@@ -29,6 +29,10 @@ use Rattle.eg_model.proofs.SharpCutLaw.{whole_plain}
 use Rattle.eg_laws.proofs.SingleMisses.{whole_lapse}
 use Rattle.eg_laws.proofs.FindingLaws.{found_by_off}
 use Rattle.eg_laws.proofs.StretchRows.{rows_end_stretches}
+use Rattle.eg_fault.specs.Classes.{closes}
+use Rattle.eg_model.specs.Lapses.{IsLapse}
+use Rattle.eg_laws.proofs.CoverageLaws.{open_at}
+use Rattle.eg_laws.proofs.OneVerdict.{latched}
 use Rattle.eg_laws.proofs.MissedTickLaws.{lapse_opens_none, off_on, misses_react}
 
 -- ---- which lapses ----
@@ -165,3 +169,23 @@ records_cut_for_good b r run onset is = each_drive b (CutForGood onset (reaction
     keeps : KeepsMissing r.setting.fault r.setting.cal.times.period
     keeps = subst (λ f. KeepsMissing f r.setting.cal.times.period) (sym is)
         (lapses_keep_missing onset (0 ∷ []) 1 r.setting.cal.times.period (omega arith) (period_least r.setting.cal.times run.accepted.times))
+
+-- ---- where one wrong verdict confirms ----
+
+module _ (s : Setting) (accepted : IsAccepted s.cal) (lapse : IsLapse s.fault) (single : feeds_to_confirm s.cal.times.weights ≡ 1)
+    (start : ℕ) (h : List Tick) (follows : Follows s.fault start h) where
+  misses_open : MissesOpenPath2 s start (SpanRows s start h)
+  misses_open tick from out = all_rows (λ row. max tick start + reaction_of s.cal.times ≤ row.tick → row.path2 ≡ false) s start h
+      (λ newer x before whole late. open_now x before
+      (follows-end s.fault start newer (x ∷ before) (subst (Follows s.fault start) whole follows))
+      (subst (λ n. max tick start + reaction_of s.cal.times ≤ n) (row_tick s start x before) late))
+    where
+      open_now : (x : Tick) (before : List Tick) → Follows s.fault start (x ∷ before) →
+          max tick start + reaction_of s.cal.times ≤ start + length before → (RowAfter s start x before).path2 ≡ false
+      open_now x before on late = open_at s (record { onset = lapse.onset; class = Lapse lapse.after lapse.every }) lapse.is
+          (unfold closes in refl) start x before on
+          (latched s accepted lapse start tick from out single before (unfold Follows in on.1) (omega (arith, late, from)))
+
+pub records_open_on_misses : {E : Type 0} (b : BenchEngine E) → RecordsOpenPath2 b
+records_open_on_misses b r run lapse single = each_drive b (MissesOpenPath2 r.setting) r
+    (λ start count span is. misses_open r.setting run.accepted lapse single start (SpanTo b r count) is.follows)

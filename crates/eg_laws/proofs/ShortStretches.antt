@@ -23,7 +23,7 @@ use Rattle.eg_model.proofs.TickLemmas.{Each, Each-map, length-moments, untripped
 use Rattle.eg_model.proofs.TripLemmas.{trip_from_fed, off_by_latch1}
 use Rattle.eg_model.proofs.PeriodLemmas.{quotient}
 use Rattle.eg_model.proofs.Silence.{AreRegular, TrueRun, NoGood, send_within, sent_at_place, run_confirms, off_after_silence}
-use Rattle.eg_model.proofs.LapseRuns.{AllOrNone, AllOrNoneEach, lapse_all_or_none, trip_opens, runs_in, runs_in-cons, AllExceed, runs_find}
+use Rattle.eg_model.proofs.LapseRuns.{AllOrNone, AllOrNoneEach, lapse_all_or_none, trip_opens, runs_in, runs_in-cons, AllExceed, low_without_ramp, runs_find}
 use Rattle.eg_model.proofs.LapseAnswers.{is_good_mark, absent_off_place, whole_before, whole_where_good}
 use Rattle.eg_model.proofs.LapseWeights.{all_of_fewer, rounded_up}
 use Rattle.eg_model.proofs.LapseLaw.{exceed_behind, off_no_excess, lapsing_history}
@@ -91,7 +91,7 @@ module _ (s : Setting) (accepted : IsAccepted s.cal) (no_ramp : s.cal.rules.fall
         (let f = accepted.torque.3 in omega arith)
         (unfold feeds_to_confirm in rounded_up s.cal.rules.torque.limit s.cal.rules.torque.up (let f = accepted.torque.0 in omega arith))
         (subst (λ n. TrueRun n (fed_bits torque_bit (moments_of s h))) ran
-        (runs_find s accepted no_ramp h each proper many exceed u)))
+        (runs_find s accepted h (low_without_ramp s no_ramp h) each proper many exceed u)))
   ]
 
   -- so an answer there isn't good

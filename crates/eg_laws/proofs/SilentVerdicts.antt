@@ -307,7 +307,7 @@ sends_later times are u = law (wrong_from times u) (sym (first_wrong times are u
         (le-div_iff_mul-le (period_least times are)).0 (omega (arith, e)) in
         let z = send_within times are in let some = period_least times are in omega (arith, low, z, some)
 
-each_parts : (P : Tick → Type 0) (more rest : List Tick) → Each P (more ++ rest) → Each P more × Each P rest
+pub each_parts : (P : Tick → Type 0) (more rest : List Tick) → Each P (more ++ rest) → Each P more × Each P rest
 unfolding Each
 each_parts P [] rest each = (tt, each)
 each_parts P (x ∷ more) rest each = let parts = each_parts P more rest each.1 in ((each.0, parts.0), parts.1)

@@ -10,6 +10,7 @@ use Rattle.eg_fault.specs.declared.class.Fault.{Fault}
 use Rattle.eg_fault.proofs.ActingLemmas.{at_tick}
 use Rattle.eg_model.specs.Answers.{is_whole}
 use Rattle.eg_laws.specs.Availability.{misses_tick, SingleMissesAreSpaced}
+use Rattle.eg_laws.specs.Latent.{single_miss}
 use Rattle.eg_model.proofs.SharpCutLaw.{whole_plain}
 
 pub whole_lapse : (out : Bool) → is_whole (record no_effects { ran = λ i. not out }) ≡ not out
@@ -50,6 +51,11 @@ once : (onset after first second : ℕ) → Comes onset after 0 first → Comes 
 unfolding turn
 once onset after first second a b less = let p = a.place in let q = b.place in let l = a.from in let m = b.from in
     omega (arith, p, q, l, m, less)
+
+-- the lapse of one tick alone misses no other
+pub misses_once : (tick t : ℕ) → misses_tick (Some (single_miss tick)) t ≡ true → t ≡ tick
+unfolding turn
+misses_once tick t out = let c = comes tick 0 0 t out in let l = c.from in let p = c.place in omega (arith, l, p)
 
 -- two numbers of one place lie a whole turn apart
 pub turn_apart : (u v n : ℕ) → u % suc n ≡ v % suc n → u < v → u + suc n ≤ v

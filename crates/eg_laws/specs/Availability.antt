@@ -4,11 +4,11 @@
 -- period is bad; and where it misses the send tick itself, no answer comes in that period, and the next
 -- answer is bad. (After a trip no answer is sent, so that wrong answers are confirmed then.) Rows stand
 -- newest first.
-use Rattle.std.specs.Prelude.{◌≡◌, ◌⊎◌, ℕ, ◌+◌, ◌≤◌, ◌<◌, Bool, true, false, not, List, [], ◌∷◌, ◌++◌, All, length, Option, Some}
+use Rattle.std.specs.Prelude.{◌≡◌, ◌⊎◌, ℕ, zero, suc, ◌+◌, ◌≤◌, ◌<◌, Bool, true, false, not, if◌then◌else◌, List, [], ◌∷◌, ◌++◌, All, length, Option, Some}
 use Rattle.std.specs.List.{list_any}
 use Rattle.eg_num.specs.declared.watches.Watches.{Watches}
 use Rattle.eg_torque.specs.declared.ramp.TheConstants.{NO_RAMP}
-use Rattle.eg_answer.specs.Times.{HasMissSpacing, miss_spacing_of}
+use Rattle.eg_answer.specs.Times.{HasMissSpacing, miss_spacing_of, silent_misses_of}
 use Rattle.eg_answer.specs.declared.rules.Rules.{Rules}
 use Rattle.eg_values.specs.Calibration.{IsAccepted}
 use Rattle.eg_fault.specs.Faults.{effects, IsNoneOrValid}
@@ -62,6 +62,20 @@ abbrev pub KeepsPath2 : Type 0
 KeepsPath2 =
     (s : Setting) → IsAccepted s.cal → (start : ℕ) (h : List Tick) →
     IsSpacedLapse s start (start + length h) → Follows s.fault start h →
+    tripped (moments_of s h) ≡ false → latch2 (moments_of s h) ≡ false
+
+-- how many of the n ticks of a run from tick `start` on level 2 misses
+unfoldable pub missed_ticks : Option Fault → (start n : ℕ) → ℕ
+missed_ticks fault start zero = 0
+missed_ticks fault start (suc n) =
+    (if misses_tick fault (start + n) then 1 else 0) + missed_ticks fault start n
+
+-- Nor are they where few ticks are missed in all, wherever these lie: all that they spoil weighs less than
+-- the limit.
+abbrev pub FewMissesKeepPath2 : Type 0
+FewMissesKeepPath2 =
+    (s : Setting) → IsAccepted s.cal → IsLapse s.fault → (start : ℕ) (h : List Tick) →
+    Follows s.fault start h → missed_ticks s.fault start (length h) ≤ silent_misses_of s.cal.times →
     tripped (moments_of s h) ≡ false → latch2 (moments_of s h) ≡ false
 
 -- so a trip alone cuts: the stages are on at the tick x after h exactly if none has come by the last of h

@@ -1,6 +1,6 @@
 -- Outside the headline. Which faults can stay hidden: there are runs of every length in which they act, and
 -- no watch finds anything.
-use Rattle.std.specs.Prelude.{ℤ, pos, negsuc, ◌+◌, ◌-◌, ◌/◌, ◌≤◌, ◌<◌, slice_index, ◌==◌, ◌||◌, nat_le, min, max, ◌⊎◌, ◌≡◌, ℕ, Bool, true, false, List, [], ◌∷◌, All, length, replicate, Some, if◌then◌else◌}
+use Rattle.std.specs.Prelude.{ℤ, pos, negsuc, ◌+◌, ◌-◌, ◌/◌, ◌≤◌, ◌<◌, slice_index, ◌==◌, ◌||◌, nat_le, min, max, ◌⊎◌, ◌≡◌, ◌≢◌, ℕ, Bool, true, false, List, [], ◌∷◌, All, length, replicate, Some, if◌then◌else◌}
 use Rattle.eg_num.specs.Arithmetic.{estimate}
 use Rattle.eg_num.specs.Interpolation.{grid_at}
 use Rattle.eg_sensor.specs.declared.tracks.TheConstants.{PEDAL_1, PEDAL_2, PLATE_1, PLATE_2, PAIRED_TRACKS}
@@ -82,6 +82,17 @@ SingleMissesHide b =
     (every ≡ 0) ⊎ (miss_spacing_of cal.times ≤ every) →
     IsValid (record { onset = onset; class = Lapse (after ∷ []) every }) →
     CanStayHidden b cal (record { onset = onset; class = Lapse (after ∷ []) every })
+
+-- the lapse that leaves out this tick alone
+abbrev pub single_miss : (tick : ℕ) → Fault
+single_miss tick = record { onset = tick; class = Lapse (0 ∷ []) 0 }
+
+-- Where one wrong verdict isn't enough to confirm, each such lapse can stay hidden if its tick isn't a send
+-- tick of a run without a reset. (There is such a tick by every calibration, as the one behind a send tick.)
+abbrev pub OneMissHides : {E : Type 0} → BenchEngine E → Type 0
+OneMissHides b =
+    (cal : CalibrationParts) → IsAccepted cal → cal.times.weights.up < cal.times.weights.limit → (tick : ℕ) →
+    place_of cal.times tick ≢ cal.times.send → tick ≤ 19999 → CanStayHidden b cal (single_miss tick)
 
 -- ---- offsets ----
 

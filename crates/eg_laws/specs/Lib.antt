@@ -3,6 +3,7 @@ pub mod InTime
 pub mod Showing
 pub mod LeastReaction
 pub mod LeastLapse
+pub mod MissedStretch
 pub mod Stretches
 pub mod Limits
 pub mod InWords

@@ -2,7 +2,7 @@
 -- where it misses at least one of any `period` ticks in a row no answer is good from the first missed tick of
 -- a drive span on, since a good one takes a run at each tick since the one before. Rows stand newest first.
 use Rattle.std.specs.Prelude.{◌≡◌, ℕ, ◌+◌, ◌≤◌, ◌<◌, true, false, max, List, [], ◌∷◌, ◌++◌, All, length, Option, Some}
-use Rattle.eg_answer.specs.Times.{reaction_of}
+use Rattle.eg_answer.specs.Times.{feeds_to_confirm, reaction_of}
 use Rattle.eg_values.specs.Excess.{longest_stretch}
 use Rattle.eg_fault.specs.Faults.{IsNoneOrValid}
 use Rattle.eg_fault.specs.declared.class.Class.TheVariants.{Lapse}
@@ -17,6 +17,7 @@ use Rattle.eg_model.specs.Rows.{record_rows}
 use Rattle.eg_model.specs.Records.{IsRun, ReactWithin}
 use Rattle.eg_laws.specs.Findings.{cutting, Finds}
 use Rattle.eg_laws.specs.Availability.{misses_tick}
+use Rattle.eg_laws.specs.Coverage.{OpensPath2}
 use Rattle.eg_laws.specs.Stretches.{RowsEndStretches}
 
 -- ---- which lapses ----
@@ -67,6 +68,13 @@ pub record MissesAreCut (s : Setting) (start : ℕ) (rows : List Row) : Type 0 w
   pub found : (tick : ℕ) → start ≤ tick → misses_tick s.fault tick ≡ true → (later before : List Row) →
       rows ≡ later ++ before → start + length before ≡ tick + reaction_of s.cal.times → Finds cutting before
 
+-- Of a drive span: path 2 doesn't conduct from R ticks on after a tick of it that level 2 misses. (So
+-- `answers` is found by then, and the stages are off.)
+abbrev pub MissesOpenPath2 : Setting → (start : ℕ) → List Row → Type 0
+MissesOpenPath2 s start rows =
+    (tick : ℕ) → start ≤ tick → misses_tick s.fault tick ≡ true →
+    OpensPath2 tick (reaction_of s.cal.times) start rows
+
 -- ---- of every record ----
 
 -- in each drive span a level 2 that keeps missing one of any `period` ticks in a row is cut within R
@@ -81,3 +89,9 @@ abbrev pub RecordsCutForGood : {E : Type 0} → BenchEngine E → Type 0
 RecordsCutForGood b =
     (r : Run) → IsRun r → (onset : ℕ) → r.setting.fault ≡ Some (never_again onset) →
     EachDriveSpan (CutForGood onset (reaction_of r.setting.cal.times)) (record_rows b r)
+
+-- and where one wrong verdict confirms, path 2 is opened after each missed tick of a lapse
+abbrev pub RecordsOpenPath2 : {E : Type 0} → BenchEngine E → Type 0
+RecordsOpenPath2 b =
+    (r : Run) → IsRun r → IsLapse r.setting.fault → feeds_to_confirm r.setting.cal.times.weights ≡ 1 →
+    EachDriveSpan (MissesOpenPath2 r.setting) (record_rows b r)

@@ -1,5 +1,5 @@
 // Availability: under which lapses wrong answers never cut before a trip.
-ghost use Rattle.eg_laws.specs.Availability.{KeepsPath2, TripsAloneCut, NoTripComes, SingleMissesAreSpaced, RecordsStayAvailable};
+ghost use Rattle.eg_laws.specs.Availability.{KeepsPath2, FewMissesKeepPath2, TripsAloneCut, NoTripComes, SingleMissesAreSpaced, RecordsStayAvailable};
 ghost use Rattle.eg_plant.specs.declared.engine_kind.EngineKind.{EngineKind};
 ghost use Rattle.eg_model.specs.Engines.{bench_of};
 
@@ -8,9 +8,12 @@ ghost use Rattle.eg_model.specs.Engines.{bench_of};
 /// answers aren't confirmed as long as no trip has come, and path 2 isn't ordered open. So a trip alone
 /// cuts there; and under any lapse, if there is no ramp and the engine shows one load twice, none comes
 /// where the full-efficiency excess comes at no tick of the span. A lapse that leaves out a single tick,
-/// or one tick every `miss_spacing` ticks or more, keeps that distance. It does nothing when it runs.
+/// or one tick every `miss_spacing` ticks or more, keeps that distance. Nor are wrong answers confirmed
+/// before a trip where level 2 misses few ticks of the span in all, (`limit` - 1) / (2 * `up`) rounded down,
+/// wherever these lie. It does nothing when it runs.
 pub fn far_misses_never_cut()
     ensures path_2 { KeepsPath2 }
+    ensures few { FewMissesKeepPath2 }
     ensures trips { TripsAloneCut }
     ensures none { NoTripComes }
     ensures single { SingleMissesAreSpaced }

@@ -1,17 +1,19 @@
 // Which faults can stay hidden.
 ghost use Rattle.eg_plant.specs.declared.engine_kind.EngineKind.{EngineKind};
 ghost use Rattle.eg_model.specs.Engines.{bench_of};
-ghost use Rattle.eg_laws.specs.Latent.{ReadingsApartHide, FarMissesHide, SingleMissesHide, SmallOffsetsHide, SmallScriptsHide, RestHides, DieselIsCalm, MovesInWindowHide};
+ghost use Rattle.eg_laws.specs.Latent.{ReadingsApartHide, FarMissesHide, SingleMissesHide, OneMissHides, SmallOffsetsHide, SmallScriptsHide, RestHides, DieselIsCalm, MovesInWindowHide};
 
 /// Faults that can stay hidden (docs/CONCEPT.md, "Faults"): by each accepted calibration and for each engine
 /// there are runs of every length under them in which no watch finds anything at any tick. A shut-off path
 /// that is held closed or doesn't conduct, a plate that is held and a wild monitoring module are such faults;
 /// and so is a lapse whose misses lie `eg_answer::miss_spacing` ticks apart or more, if the calibration has
-/// such a number. It does nothing when it runs.
+/// such a number, and a lapse of one tick that isn't a send tick, where one wrong verdict doesn't confirm. It
+/// does nothing when it runs.
 pub fn faults_stay_hidden()
     ensures readings_apart { (engine : EngineKind) → ReadingsApartHide (bench_of engine) }
     ensures lapses { (engine : EngineKind) → FarMissesHide (bench_of engine) }
     ensures single { (engine : EngineKind) → SingleMissesHide (bench_of engine) }
+    ensures one { (engine : EngineKind) → OneMissHides (bench_of engine) }
 {}
 
 /// Offsets that can stay hidden (docs/CONCEPT.md, "Faults"): those that move the readings of a track by no

@@ -16,6 +16,7 @@ mod latent;
 mod least_lapse;
 mod least_reaction;
 mod limits;
+mod missed_stretch;
 mod missed_ticks;
 mod never_cuts;
 mod outputs;
@@ -45,6 +46,7 @@ pub use latent::{
 pub use least_lapse::{lapse_bound_is_least, longest_excess_run};
 pub use least_reaction::{latest_cut_run, reaction_is_least};
 pub use limits::records_keep_limits;
+pub use missed_stretch::missed_excess_ends;
 pub use missed_ticks::records_cut_misses;
 pub use never_cuts::permitted_throttles_never_cut;
 pub use outputs::level_1_acts_by_its_outputs;

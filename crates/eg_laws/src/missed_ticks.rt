@@ -1,5 +1,5 @@
 // A level 2 that never runs again, or that keeps missing ticks, is cut.
-ghost use Rattle.eg_laws.specs.MissedTicks.{LapsesKeepMissing, NeverRunsAgain, RecordsCutMisses, RecordsCutForGood};
+ghost use Rattle.eg_laws.specs.MissedTicks.{LapsesKeepMissing, NeverRunsAgain, RecordsCutMisses, RecordsCutForGood, RecordsOpenPath2};
 ghost use Rattle.eg_plant.specs.declared.engine_kind.EngineKind.{EngineKind};
 ghost use Rattle.eg_model.specs.Engines.{bench_of};
 
@@ -8,11 +8,13 @@ ghost use Rattle.eg_model.specs.Engines.{bench_of};
 /// one of any `period` ticks in a row, the stages are off from R ticks after a confirmed torque excess; and
 /// whatever the torque from R ticks after each missed tick of the span, with a watch that cuts found by then.
 /// So it is by each lapse whose count begins anew at least once a period. Where level 2 never runs again they
-/// are off from R ticks after the onset, or after the span's begin if that is later. It does nothing when it
-/// runs.
+/// are off from R ticks after the onset, or after the span's begin if that is later. And where one wrong
+/// verdict confirms, path 2 doesn't conduct from R ticks on after any tick of a drive span that a lapse
+/// leaves out. It does nothing when it runs.
 pub fn records_cut_misses()
     ensures misses { (engine : EngineKind) → RecordsCutMisses (bench_of engine) }
     ensures for_good { (engine : EngineKind) → RecordsCutForGood (bench_of engine) }
+    ensures one_verdict { (engine : EngineKind) → RecordsOpenPath2 (bench_of engine) }
     ensures lapses { LapsesKeepMissing }
     ensures never { NeverRunsAgain }
 {}

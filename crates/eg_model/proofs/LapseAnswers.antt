@@ -89,7 +89,7 @@ pub record Sent (times : TimeParts) (ms : List Moment) (now n : ℕ) : Type 0 wh
   pub enough : times.period * goods_in n ms + runs ≤ runs_in n ms
 
 -- two send ticks stand a period apart
-apart : (q k period send since t : ℕ) → t ≡ q * period + send → t ≡ k * period + send + 1 + since →
+pub apart : (q k period send since t : ℕ) → t ≡ q * period + send → t ≡ k * period + send + 1 + since →
     period ≤ since + 1
 apart q k period send since t e f =
     more q k period since (less q k period since (omega arith)) (omega arith)

@@ -23,7 +23,7 @@ use Rattle.eg_model.proofs.TripLemmas.{trip_from_fed, exceeds, latch1_on, off_by
 use Rattle.eg_model.proofs.Silence.{wrongs, run_confirms, longer_run, opens_when_confirmed, off_by_latch2, period_least, send_within}
 use Rattle.eg_model.proofs.ClassLemmas.{of_history}
 use Rattle.eg_model.proofs.SpanRows.{end_of, follows-end, proper-end}
-use Rattle.eg_model.proofs.LapseRuns.{AllOrNone, AllOrNoneEach, lapse_all_or_none, trip_opens, runs_in, AllExceed, runs_find}
+use Rattle.eg_model.proofs.LapseRuns.{AllOrNone, AllOrNoneEach, lapse_all_or_none, trip_opens, runs_in, AllExceed, low_without_ramp, runs_find}
 use Rattle.eg_model.proofs.LapseAnswers.{is_good_mark, goods_in, Sent, sent_since, Judged, judged}
 use Rattle.eg_model.proofs.LapseWeights.{all_of_fewer, count_of_fewer, rounded_up, confirms_few}
 
@@ -113,7 +113,7 @@ module _ (s : Setting) (h : List Tick) (g : EndsWithPeriods s h)
       confirmed enough =
           let all = all_of_fewer (λ b. b) counted ((rounds * round + 1) * period) (true_excesses s h)
           (omega arith) g.exceed.each in
-          let found = runs_find s g.lapsing.accepted g.lapsing.bounded.no_ramp h g.each g.proper counted all untripped in
+          let found = runs_find s g.lapsing.accepted h (low_without_ramp s g.lapsing.bounded.no_ramp h) g.each g.proper counted all untripped in
           run_confirms s.cal.rules.torque runs (fed_bits torque_bit past)
           (let f = g.lapsing.accepted.torque.3 in omega arith) weighs
           (longer_run runs (runs_in counted past) (fed_bits torque_bit past) enough found)

@@ -34,7 +34,7 @@ count_of_fewer p (suc n) (suc more) (x ∷ xs) l =
     go b k k' l = grind arith
 
 -- a feed is bad or good
-count-both : (us : List Bool) → count_by (λ b. b) us + count_by not us ≡ length us
+pub count-both : (us : List Bool) → count_by (λ b. b) us + count_by not us ≡ length us
 count-both [] = refl
 count-both (b ∷ us) = rw (count-cons (λ c. c) b us, count-cons not b us) (go b _ _ _ (count-both us))
   where
@@ -45,7 +45,7 @@ count-both (b ∷ us) = rw (count-cons (λ c. c) b us, count-cons not b us) (go 
 -- ---- what the newest feeds weigh ----
 
 -- a window of the newest feeds weighs no more than the greatest
-weight_below : (w : WeightParts) (n : ℕ) (bits : List Bool) → weight w (take n bits) ≤ greatest w bits
+pub weight_below : (w : WeightParts) (n : ℕ) (bits : List Bool) → weight w (take n bits) ≤ greatest w bits
 unfolding weight
 weight_below w zero bits = omega arith
 weight_below w (suc n) [] = omega arith

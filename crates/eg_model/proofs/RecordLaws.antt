@@ -6,7 +6,7 @@ use Rattle.std.proofs.lemmas.List.Elements.{All-head, All-tail, All-cons, All-ni
 use Rattle.std.proofs.lemmas.Bool.{cases_Bool, ltb-true, lt-ltb}
 use Rattle.eg_num.specs.Drive.{DriveRow, IsDrive}
 use Rattle.eg_num.specs.Windows.{is_confirmed}
-use Rattle.eg_answer.specs.Times.{reaction_of}
+use Rattle.eg_answer.specs.Times.{reaction_of, lapse_bound_of}
 use Rattle.eg_values.specs.Calibration.{IsAccepted}
 use Rattle.eg_plant.specs.PlantParts.{PlantParts}
 use Rattle.eg_plant.specs.Engine.{KeepsLaws}
@@ -27,16 +27,18 @@ use Rattle.eg_model.specs.Spans.{has_passed, kind_at, before_at, moment_at, next
 use Rattle.eg_model.specs.Engines.{BenchEngine, KeepsBenchLaws, IsOneLoad, ShowsOneLoad}
 use Rattle.eg_model.specs.Bench.{Run, no_drive, stepped, engine_after, shown_at, drive_at, entry_at, moments_to, entries_to}
 use Rattle.eg_model.specs.Rows.{row_of, rows_of, record_rows}
+use Rattle.eg_model.specs.Lapses.{IsLapse, StretchesStayBelow}
+use Rattle.eg_model.proofs.LapseLaw.{stretches_are_short}
 use Rattle.eg_model.specs.Premises.{IsProper, AreProper, IsProperRun, Follows, is_on_after, full_excesses}
 use Rattle.eg_model.specs.SharpCut.{ArePlain}
 use Rattle.eg_model.specs.StartUp.{IsUndisturbed}
 use Rattle.eg_model.specs.SpanHistories.{SpanIsHistory}
-use Rattle.eg_model.specs.Records.{IsRun, NeverFails, is_before_onset, ReactWithin, RowsReactAtOnce, CutOneTickAfter, CutStandingExcess, ExcessIsShort, CutFromOnset, RecordsReact, RecordsReactAtOnce, RecordsCutSharply, RecordsCutSharplyBefore, RecordsCutStandingExcess, RecordsHaveShortExcess, RecordsCutFromOnset, RecordsTestUnpowered, RecordsPassTests}
+use Rattle.eg_model.specs.Records.{IsRun, NeverFails, is_before_onset, ReactWithin, RowsReactAtOnce, CutOneTickAfter, CutStandingExcess, ExcessIsBelow, CutFromOnset, RecordsReact, RecordsReactAtOnce, RecordsCutSharply, RecordsCutSharplyBefore, RecordsCutStandingExcess, RecordsHaveShortExcess, RecordsCutFromOnset, RecordsTestUnpowered, RecordsPassTests}
 use Rattle.eg_model.proofs.StartUpLaws.{tests_pass}
 use Rattle.eg_model.proofs.SharpCutLaw.{cuts_sharply}
 use Rattle.eg_model.proofs.SpanLemmas.{length-run_moments, kind-goes_on, tick_after, ticks_before, ticks_before-begins, ticks_before-goes_on, continues, spans_are_histories, proper_drive}
 use Rattle.eg_model.proofs.SpanRows.{rows_after, SpanRows, LastOf, last_of, row_tick, rows_off, bits_after, full_unnumbered}
-use Rattle.eg_model.proofs.SpanLaws.{react_within, react_at_once, cut_lapses, short_lapses, cut_from_onset, sharp_after, cut_one_tick_after}
+use Rattle.eg_model.proofs.SpanLaws.{react_within, react_at_once, cut_lapses, stays_below, cut_from_onset, sharp_after, cut_one_tick_after}
 use Rattle.eg_model.proofs.RecordTicks.{length-moments_to, records_are_histories}
 use Rattle.eg_model.proofs.RecordSpans.{kind_by, part_of, with_part, SpanTo, SpanIn, span_in}
 
@@ -324,10 +326,17 @@ module _ {E : Type 0} {b : BenchEngine E} {Keeps : PlantParts → E → Type 0} 
       cut_lapses r.setting start (SpanTo b r count) run.accepted bound lapse is.follows
       (proper_span r run valid start count span is))
 
-  pub records_have_short_excess : RecordsHaveShortExcess b
-  records_have_short_excess r run valid bound lapse = each_drive b (ExcessIsShort r.setting.cal) r (λ start count span is.
-      short_lapses r.setting start (SpanTo b r count) run.accepted bound lapse is.follows
+  -- what bounds the stretches of histories bounds those of records
+  pub records_stay_below : (r : Run) → IsRun r → IsNoneOrValid r.setting.fault → IsLapse r.setting.fault → (bound : ℕ) →
+      StretchesStayBelow r.setting.cal bound →
+      EachDriveSpan (ExcessIsBelow r.setting.cal.rules.threshold bound) (record_rows b r)
+  records_stay_below r run valid lapse bound stay = each_drive b (ExcessIsBelow r.setting.cal.rules.threshold bound) r (λ start count span is.
+      stays_below r.setting start (SpanTo b r count) bound stay lapse is.follows
       (proper_span r run valid start count span is))
+
+  pub records_have_short_excess : RecordsHaveShortExcess b
+  records_have_short_excess r run valid bound lapse = records_stay_below r run valid lapse
+      (lapse_bound_of r.setting.cal.rules.torque r.setting.cal.times) (stretches_are_short r.setting.cal run.accepted bound)
 
   -- ---- the sharp cut ----
 

@@ -117,7 +117,7 @@ unfolding signal
 signal_value x past i before value r u h = rw (r.unflipped, r.ran i, h, u i) (xor_zero_r value)
 
 -- and after a trip it is 0
-signal_tripped : (x : Effects) (past : List Moment) (i before value : ℕ) → Runs x → tripped past ≡ true →
+pub signal_tripped : (x : Effects) (past : List Moment) (i before value : ℕ) → Runs x → tripped past ≡ true →
     signal x past i before value ≡ 0
 unfolding signal
 signal_tripped x past i before value r h = rw (r.unflipped, r.ran i, h) refl
@@ -171,7 +171,7 @@ module _ (s : Setting) (x : Tick) (past : List Moment) (runs : Runs x.effects)
   abbrev effective : DriveRow
   effective = effective_drive s.cal x.entry.drive
 
-  permitted-below : IsAccepted s.cal → IsLow s past → ErrsSafely s.cal.rules.kt reads effective x.entry.shown.torque →
+  pub permitted-below : IsAccepted s.cal → IsLow s past → ErrsSafely s.cal.rules.kt reads effective x.entry.shown.torque →
       m.signals.permitted ≤ m.limit
   permitted-below accepted low safe =
       rw (permitted-is, limit-is)

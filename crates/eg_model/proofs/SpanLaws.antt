@@ -15,12 +15,12 @@ use Rattle.eg_model.specs.Moments.{moments_of}
 use Rattle.eg_model.specs.Premises.{AreProper, Follows, is_on_after, true_excesses, full_excesses}
 use Rattle.eg_model.specs.Reaction.{OffFrom, is_at_once, spoils_answers}
 use Rattle.eg_model.specs.SharpCut.{ArePlain}
-use Rattle.eg_model.specs.Lapses.{IsLapse}
-use Rattle.eg_model.specs.Records.{ExceedLast, ReactWithin, RowsReactAtOnce, CutOneTickAfter, CutStandingExcess, ExcessIsShort, CutFromOnset}
+use Rattle.eg_model.specs.Lapses.{IsLapse, StretchesStayBelow}
+use Rattle.eg_model.specs.Records.{ExceedLast, ReactWithin, RowsReactAtOnce, CutOneTickAfter, CutStandingExcess, ExcessIsBelow, CutFromOnset}
 use Rattle.eg_model.proofs.Silence.{enough_weight}
 use Rattle.eg_model.proofs.ReactionLaw.{reacts_in_time, reacts_at_once_law, cuts_from_onset}
 use Rattle.eg_model.proofs.SharpCutLaw.{cuts_sharply}
-use Rattle.eg_model.proofs.LapseLaw.{cuts_lapses, lapses_are_short}
+use Rattle.eg_model.proofs.LapseLaw.{cuts_lapses}
 use Rattle.eg_model.proofs.TickLemmas.{length-moments}
 use Rattle.eg_model.proofs.SpanRows.{Between, between, EndOf, end_of, follows-end, proper-end, SpanRows, RowAfter, length-rows_after, row_on, row_tick, all_rows, Split, split, BitsOf, bits_after, true_unnumbered, full_unnumbered, confirmed_later, quiet_earlier, IsFirstAt, first_confirms, never_confirms, exceed}
 
@@ -150,10 +150,10 @@ module _ (s : Setting) (start : ℕ) (h : List Tick) where
           (exceed s start (lapse_periods s.cal.rules.torque s.cal.times * s.cal.times.period) rest
           (subst (ExceedLast s.cal.rules.threshold (lapse_periods s.cal.rules.torque s.cal.times * s.cal.times.period)) are last))
 
-  pub short_lapses : IsAccepted s.cal → BoundsLapses s.cal → IsLapse s.fault → Follows s.fault start h →
-      AreProper s h → ExcessIsShort s.cal start (SpanRows s start h)
-  short_lapses accepted bound lapse follows proper later before n e last =
-      lapses_are_short s accepted bound lapse start parts.rest
+  pub stays_below : (bound : ℕ) → StretchesStayBelow s.cal bound → IsLapse s.fault → Follows s.fault start h →
+      AreProper s h → ExcessIsBelow s.cal.rules.threshold bound start (SpanRows s start h)
+  stays_below bound stay lapse follows proper later before n e last =
+      stay s refl lapse start parts.rest
       (follows-end s.fault start parts.more parts.rest (subst (Follows s.fault start) parts.whole follows))
       (proper-end s parts.more parts.rest (subst (AreProper s) parts.whole proper)) n
       (exceed s start n parts.rest (subst (ExceedLast s.cal.rules.threshold n) parts.rows_are last))

@@ -94,11 +94,14 @@ CutStandingExcess cal start rows =
     ExceedLast cal.rules.threshold (lapse_periods cal.rules.torque cal.times * cal.times.period) before →
     All (λ row. row.on ≡ false) later
 
--- each stretch of rows in a row with true excess is shorter than the bound for lapses
+-- each stretch of rows in a row with true excess has fewer than `bound` rows
+abbrev pub ExcessIsBelow : (threshold bound start : ℕ) → List Row → Type 0
+ExcessIsBelow threshold bound start rows =
+    (later before : List Row) (n : ℕ) → rows ≡ later ++ before → ExceedLast threshold n before → n < bound
+
+-- each is shorter than the bound for lapses
 abbrev pub ExcessIsShort : CalibrationParts → (start : ℕ) → List Row → Type 0
-ExcessIsShort cal start rows =
-    (later before : List Row) (n : ℕ) → rows ≡ later ++ before →
-    ExceedLast cal.rules.threshold n before → n < lapse_bound_of cal.rules.torque cal.times
+ExcessIsShort cal = ExcessIsBelow cal.rules.threshold (lapse_bound_of cal.rules.torque cal.times)
 
 -- where a module of level 2 is skipped or disturbed, or both levels halt, the stages are off from `bound`
 -- ticks after the onset, or after the span's begin if that is later, whatever the torque

@@ -10,8 +10,8 @@ use Rattle.eg_laws.proofs.SingleMisses.{single_misses_are_spaced}
 use Rattle.eg_runs.specs.WorkedMisses.{missed_from, sevens, missed_run, single_miss, gap_run, reported_with}
 use Rattle.eg_model.proofs.WholeModel.{whole_model}
 
--- five periods: a wrong verdict adds 3, and three right ones take what two wrong ones add
-pub spacing : miss_spacing_of (sevens 9).times ≡ 35
+-- four periods and a tick: a wrong verdict adds 3, and three right ones take what two wrong ones add
+pub spacing : miss_spacing_of (sevens 9).times ≡ 29
 unfolding periods_between_misses miss_spacing_of
 spacing = refl
 
@@ -30,13 +30,13 @@ pub near-verdicts : verdicts_of (missed_run 28)
 unfolding whole_model
 near-verdicts = refl
 
--- at the ticks 3, 38, 73, ..: two of five
-pub far_apart : IsSpacedLapse (missed_run 35).setting 0 77
+-- at the ticks 3, 32, 61, ..: two, and from then on one, of four or five
+pub far_apart : IsSpacedLapse (missed_run 29).setting 0 77
 far_apart = record {
   has = record { two_are_few = omega arith; some_taken = omega arith };
-  lapse = record { onset = 3; after = 0 ∷ []; every = 35; is = refl };
-  spaced = subst (λ distance. MissesAreSpaced (missed_from 3 35) distance 0 77) (sym spacing)
-      (single_misses_are_spaced 3 0 35 35 0 77 (inr (omega arith)));
+  lapse = record { onset = 3; after = 0 ∷ []; every = 29; is = refl };
+  spaced = subst (λ distance. MissesAreSpaced (missed_from 3 29) distance 0 77) (sym spacing)
+      (single_misses_are_spaced 3 0 29 29 0 77 (inr (omega arith)));
 }
 
 -- by misses at the ticks 3, 13, 23, ..: of the ticks 14 to 23 one alone is missed
@@ -49,7 +49,7 @@ within = record {
       absurd (omega (arith, apart, from, before));
 }
 
-pub far : report_on (missed_run 35) ≡ reported_with 24 None None
+pub far : report_on (missed_run 29) ≡ reported_with 24 None None
 unfolding whole_model
 far = refl
 

@@ -53,15 +53,15 @@ pub fn standing_excess_run()
 
 /// Misses that cut and misses that don't, by one calibration with a question every 7 ticks: a wrong verdict
 /// adds 3 of 9, and a right one takes 2. Level 2 misses tick 3, which is a send tick, and so spoils two
-/// verdicts. A miss every 28 ticks cuts, at tick 70; one every 35 ticks, which is `eg_answer::miss_spacing`,
+/// verdicts. A miss every 28 ticks cuts, at tick 70; one every 29 ticks, which is `eg_answer::miss_spacing`,
 /// doesn't. Where two wrong verdicts are enough to confirm there is no such distance: a single miss cuts. It
 /// does nothing when it runs.
 pub fn near_misses_cut_and_far_ones_do_not()
-    ensures spacing { miss_spacing_of (sevens 9).times ≡ 35 }
+    ensures spacing { miss_spacing_of (sevens 9).times ≡ 29 }
     ensures near { report_on (missed_run 28) ≡ reported_with 24 (Some (Answers, 69)) (Some 70) }
-    ensures far_apart { IsSpacedLapse (missed_run 35).setting 0 77 }
+    ensures far_apart { IsSpacedLapse (missed_run 29).setting 0 77 }
     ensures within { IsSpacedLapse (missed_run 10).setting 14 24 }
-    ensures far { report_on (missed_run 35) ≡ reported_with 24 None None }
+    ensures far { report_on (missed_run 29) ≡ reported_with 24 None None }
     ensures none { ¬ HasMissSpacing (sevens 6).times }
     ensures single { report_on single_miss ≡ reported_with 17 (Some (Answers, 13)) (Some 14) }
 {}

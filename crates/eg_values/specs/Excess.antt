@@ -1,11 +1,11 @@
 -- How long a true excess can last by a calibration, in ticks, and how great it can be, in tenths of Nm.
-use Rattle.std.specs.Prelude.{◌≡◌, ℕ, ◌+◌, ◌-◌, ◌*◌, ◌/◌, ◌==◌, if◌then◌else◌, Option, Some, None, length, max, min, take}
+use Rattle.std.specs.Prelude.{◌≡◌, ◌⊎◌, ℕ, ◌+◌, ◌-◌, ◌*◌, ◌/◌, ◌==◌, if◌then◌else◌, Option, Some, None, length, max, min, take}
 use Rattle.std.specs.List.{fold}
 use Rattle.eg_num.specs.Arithmetic.{quotient_up}
 use Rattle.eg_num.specs.Interpolation.{Grid, cell}
 use Rattle.eg_torque.specs.declared.ramp.TheConstants.{NO_RAMP}
 use Rattle.eg_plant.specs.PlantParts.{PlantParts}
-use Rattle.eg_answer.specs.Times.{feeds_to_confirm, reaction_of, HasLapseBound}
+use Rattle.eg_answer.specs.Times.{feeds_to_confirm, reaction_of, HasLapseBound, longest_missed_of}
 use Rattle.eg_answer.specs.declared.rules.Rules.{Rules}
 use Rattle.eg_values.specs.Calibration.{CalibrationParts}
 
@@ -50,3 +50,13 @@ greatest_excess cal = greatest_torque cal.plant - (least_permitted cal.rules.per
 pub record BoundsLapses (cal : CalibrationParts) : Type 0 where
   pub no_ramp : cal.rules.fall ≡ NO_RAMP
   pub bound : HasLapseBound cal.rules.torque cal.times
+
+-- The calibration bounds each stretch of excess under lapses: it has no ramp, or one that never comes down,
+-- or one wrong verdict confirms.
+abbrev pub BoundsMissed : CalibrationParts → Type 0
+BoundsMissed cal =
+    ((cal.rules.fall ≡ NO_RAMP) ⊎ (cal.rules.fall ≡ 0)) ⊎ (feeds_to_confirm cal.times.weights ≡ 1)
+
+-- the longest stretch in ticks under lapses, by such a calibration
+unfoldable pub longest_missed : CalibrationParts → ℕ
+longest_missed cal = longest_missed_of cal.rules.torque cal.times
