@@ -19,7 +19,7 @@ use Rattle.eg_model.specs.Premises.{Follows, AreProper, is_on_after, true_excess
 use Rattle.eg_model.specs.Records.{ReactWithin}
 use Rattle.eg_model.specs.Engines.{BenchEngine, KeepsBenchLaws}
 use Rattle.eg_laws.specs.Availability.{misses_tick}
-use Rattle.eg_laws.specs.MissedTicks.{KeepsMissing, LapsesKeepMissing, NeverRunsAgain, CutForGood, MissesAreCut, RecordsCutMisses, RecordsCutForGood, MissesOpenPath2, RecordsOpenPath2}
+use Rattle.eg_laws.specs.MissedTicks.{KeepsMissing, LapsesKeepMissing, NeverRunsAgain, CutForGood, MissesAreCut, RecordsCutMisses, RecordsCutForGood, MissesOpenPath2, RecordsOpenAtMisses}
 use Rattle.eg_model.proofs.Silence.{period_least}
 use Rattle.eg_model.proofs.SpanRows.{Between, between, follows-end, proper-end, SpanRows, RowAfter, row_on, row_tick, all_rows, true_unnumbered, bits_after, IsFirstAt, first_confirms}
 use Rattle.eg_model.proofs.SpanLaws.{reaction_least}
@@ -186,6 +186,6 @@ module _ (s : Setting) (accepted : IsAccepted s.cal) (lapse : IsLapse s.fault) (
           (unfold closes in refl) start x before on
           (latched s accepted lapse start tick from out single before (unfold Follows in on.1) (omega (arith, late, from)))
 
-pub records_open_on_misses : {E : Type 0} (b : BenchEngine E) → RecordsOpenPath2 b
+pub records_open_on_misses : {E : Type 0} (b : BenchEngine E) → RecordsOpenAtMisses b
 records_open_on_misses b r run lapse single = each_drive b (MissesOpenPath2 r.setting) r
     (λ start count span is. misses_open r.setting run.accepted lapse single start (SpanTo b r count) is.follows)

@@ -91,7 +91,7 @@ RecordsCutForGood b =
     EachDriveSpan (CutForGood onset (reaction_of r.setting.cal.times)) (record_rows b r)
 
 -- and where one wrong verdict confirms, path 2 is opened after each missed tick of a lapse
-abbrev pub RecordsOpenPath2 : {E : Type 0} → BenchEngine E → Type 0
-RecordsOpenPath2 b =
+abbrev pub RecordsOpenAtMisses : {E : Type 0} → BenchEngine E → Type 0
+RecordsOpenAtMisses b =
     (r : Run) → IsRun r → IsLapse r.setting.fault → feeds_to_confirm r.setting.cal.times.weights ≡ 1 →
     EachDriveSpan (MissesOpenPath2 r.setting) (record_rows b r)

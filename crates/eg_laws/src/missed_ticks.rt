@@ -1,5 +1,5 @@
 // A level 2 that never runs again, or that keeps missing ticks, is cut.
-ghost use Rattle.eg_laws.specs.MissedTicks.{LapsesKeepMissing, NeverRunsAgain, RecordsCutMisses, RecordsCutForGood, RecordsOpenPath2};
+ghost use Rattle.eg_laws.specs.MissedTicks.{LapsesKeepMissing, NeverRunsAgain, RecordsCutMisses, RecordsCutForGood, RecordsOpenAtMisses};
 ghost use Rattle.eg_plant.specs.declared.engine_kind.EngineKind.{EngineKind};
 ghost use Rattle.eg_model.specs.Engines.{bench_of};
 
@@ -14,7 +14,7 @@ ghost use Rattle.eg_model.specs.Engines.{bench_of};
 pub fn records_cut_misses()
     ensures misses { (engine : EngineKind) → RecordsCutMisses (bench_of engine) }
     ensures for_good { (engine : EngineKind) → RecordsCutForGood (bench_of engine) }
-    ensures one_verdict { (engine : EngineKind) → RecordsOpenPath2 (bench_of engine) }
+    ensures one_verdict { (engine : EngineKind) → RecordsOpenAtMisses (bench_of engine) }
     ensures lapses { LapsesKeepMissing }
     ensures never { NeverRunsAgain }
 {}
