@@ -195,6 +195,12 @@ impl Calibration {
         if self.fall == NO_RAMP { self.times.lapse_bound(&self.torque) } else { None }
     }
 
+    /// The longest stretch of excess under lapses: none if a ramp falls and one wrong verdict doesn't confirm.
+    pub fn missed(&self) -> Option<u32> {
+        let bounds = matches!(self.fall, NO_RAMP | 0) || self.times.wrong_verdicts() == 1;
+        bounds.then(|| self.stretch() + self.times.further_ticks(self.torque.to_confirm()).saturating_sub(1))
+    }
+
     /// The longest stretch of excess under a listed fault, in ticks.
     pub fn stretch(&self) -> u32 {
         self.torque.to_confirm() - 1 + self.times.reaction()
@@ -216,7 +222,7 @@ pub fn folded(sign: u16, result: u16) -> u16 {
 
 impl Times {
     /// How many wrong verdicts in a row confirm.
-    fn wrong_verdicts(&self) -> u32 {
+    pub fn wrong_verdicts(&self) -> u32 {
         self.weights.to_confirm()
     }
 
@@ -235,11 +241,21 @@ impl Times {
         Some((rounds * periods + 2) * self.period)
     }
 
+    /// For how many ticks right verdicts can put off the confirming one while so many runs confirm the torque: each
+    /// right one takes the runs of a period from those before the trip, and the bad answer before it one run.
+    fn further_ticks(&self, runs: u32) -> u32 {
+        let (few, limit) = (self.wrong_verdicts(), u32::from(self.weights.limit));
+        let right = runs.saturating_sub(2) / self.period;
+        let taken = right * u32::from(self.weights.down);
+        let wrong = ((limit - 1 + taken) / u32::from(self.weights.up) + 1).min(few + right * (few - 1));
+        (wrong - few) * self.period
+    }
+
     /// The least distance from which on missed runs of level 2 never cut: each spoils two verdicts at most, and the
-    /// right ones between are to take back what those add. None where two wrong ones confirm.
+    /// right ones between take back what those add. None where two wrong ones confirm.
     pub fn miss_spacing(&self) -> Option<u32> {
         let (spoiled, down) = (2 * u32::from(self.weights.up), u32::from(self.weights.down));
-        (down > 0 && spoiled < u32::from(self.weights.limit)).then(|| (spoiled.div_ceil(down) + 2) * self.period)
+        (down > 0 && spoiled < u32::from(self.weights.limit)).then(|| (spoiled.div_ceil(down) + 1) * self.period + 1)
     }
 
     /// The tick of a test span at which the paths are read back.

@@ -64,7 +64,11 @@ pub fn lines(cal: &Calibration) -> Vec<String> {
         lines.push(found(&class, "with a reset", &effect, "start", test + 1, Off::From(0)));
     }
     lines.push(unfound("path-open", "either path", "cut without need", Off::From(0)));
-    let hidden = if cal.times.miss_spacing().is_some() { "1" } else { "-" };
-    lines.push(line("lapse", "level 2 left out at times", "late cut", "-", None, Off::Below(cal.lapse_bound()), hidden));
+    let (case, effect) = ("level 2 left out at times", "late cut");
+    lines.push(if cal.times.wrong_verdicts() == 1 {
+        found("lapse", case, effect, "answers", reaction, Off::From(reaction))
+    } else {
+        unfound("lapse", case, effect, Off::Below(cal.missed().map(|longest| longest + 1)))
+    });
     lines
 }

@@ -167,6 +167,7 @@ fn limits(cal: &Calibration, out: &mut Output) -> Result<(), End> {
     put(format!("stretch {}\n", cal.stretch()).as_bytes(), out)?;
     put(format!("peak {}\n", cal.peak()).as_bytes(), out)?;
     put(format!("ramp {}\n", or_none(cal.ramp_ticks())).as_bytes(), out)?;
+    put(format!("missed {}\n", or_none(cal.missed())).as_bytes(), out)?;
     Ok(())
 }
 
