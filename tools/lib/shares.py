@@ -79,8 +79,9 @@ def picture_of(shares, limits, units):
     for share in range(0, int(most) + 1, step_of(int(most), 10)):
         shapes.append(text(at(share, 0)[0], bottom + 14, share, size=10))
     if evenly is not None:
+        x, said = at(evenly, 0)[0], f"spacing {units.ticks(limits['spacing'])}, evenly"
         shapes += [line([at(evenly, 0), at(evenly, 100)], INK, "6 3"),
-                   text(at(evenly, 0)[0] + 4, TOP + 10, f"spacing {units.ticks(limits['spacing'])}, evenly", "start", 10)]
+                   text(x + 4, bottom - 6, said, "start", 10) if x < WIDTH / 2 else text(x - 4, TOP + 12, said, "end", 10)]
     points = [at(share, one.per_cent()) for share, one in shares.items()]
     shapes += [line(points, DARK, width=2), *(box(x - 3, y - 3, 6, 6, DARK) for x, y in points)]
     longest = units.ticks(max(one.stretch for one in shares.values()))
