@@ -8,7 +8,7 @@ import re
 import shlex
 import sys
 
-from lib.calibration import calibration_of, has_ramp, period_of, threshold_of, weight_limits_of
+from lib.calibration import calibration_of, has_ramp, threshold_of, weight_limits_of
 from lib.covering import cover_of, missing
 from lib.detecting import spans_of, taken_by_class
 from lib.files import TOOLS, TOP, read, sum_of, text_in
@@ -67,7 +67,6 @@ class Played(Inputs):
         for name in self.inputs:
             self.add_sum(name)
         self.threshold = threshold_of(calibration)
-        self.period = period_of(calibration)
         self.has_ramp = has_ramp(calibration)
         self.weights, self.pairs = weight_limits_of(calibration), calibration_of(calibration)["pairs"]
         self.records = {row["run"]: self.record(row["run"]) for row in self.rows}
