@@ -79,8 +79,7 @@ unfoldable pub rights_between : WeightParts → TimeParts → ℕ
 rights_between torque times = (feeds_to_confirm torque - 2) / times.period
 
 -- With so many right verdicts between them no counter takes more wrong ones, the confirming one counted. Up
--- to the last one the counter is below the limit, and fewer in a row than confirm stand before each right
--- one.
+-- to the last one the counter is below the limit, and fewer in a row than confirm stand before each right one.
 unfoldable pub most_wrong : WeightParts → ℕ → ℕ
 most_wrong w rights =
     min ((w.limit - 1 + rights * w.down) / w.up + 1)

@@ -51,8 +51,8 @@ pub record BoundsLapses (cal : CalibrationParts) : Type 0 where
   pub no_ramp : cal.rules.fall ≡ NO_RAMP
   pub bound : HasLapseBound cal.rules.torque cal.times
 
--- The calibration bounds each stretch of excess under lapses: it has no ramp, or one that never comes down,
--- or one wrong verdict confirms.
+-- The calibration bounds each stretch of excess under lapses: it has no ramp, or one that never comes down, or
+-- one wrong verdict confirms.
 abbrev pub BoundsMissed : CalibrationParts → Type 0
 BoundsMissed cal =
     ((cal.rules.fall ≡ NO_RAMP) ⊎ (cal.rules.fall ≡ 0)) ⊎ (feeds_to_confirm cal.times.weights ≡ 1)
