@@ -44,11 +44,6 @@ use Rattle.eg_laws.proofs.WrongVerdicts.{few_wrong, most_in_row, many_within}
 
 -- ---- up to a tick by which neither a trip came nor wrong answers were confirmed ----
 
-pub confirming_runs : (s : Setting) → IsAccepted s.cal → 0 < feeds_to_confirm s.cal.rules.torque
-unfolding feeds_to_confirm
-confirming_runs s accepted = quotient_positive s.cal.rules.torque.limit s.cal.rules.torque.up
-    (let a = accepted.torque.3 in omega (arith, a)) (let a = accepted.torque.0 in omega (arith, a))
-
 pub confirming_verdicts : (s : Setting) → IsAccepted s.cal → 0 < feeds_to_confirm s.cal.times.weights
 unfolding feeds_to_confirm
 confirming_verdicts s accepted = quotient_positive s.cal.times.weights.limit s.cal.times.weights.up
