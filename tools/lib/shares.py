@@ -89,7 +89,7 @@ def picture_of(shares, limits, units):
     shapes += [line(points, DARK, width=2), *(box(x - 3, y - 3, 6, 6, DARK) for x, y in points)]
     longest = units.ticks(max(one.stretch for one in shares.values()))
     shapes.append(text((LEFT + WIDTH) / 2, bottom + 30, "ticks that level 2 misses, of 1000; runs that are cut, per cent", size=10))
-    said = f"longest excess of these runs: {longest}; proved (missed): {units.ticks(limits['missed'])}"
+    said = f"longest excess of these runs: {longest}; proved (missed): {units.cell('missed', limits['missed'])}"
     shapes.append(text((LEFT + WIDTH) / 2, bottom + 44, said, size=10))
     about = "; ".join([*(f"{share} of 1000: {one.cut} of {one.runs} cut" for share, one in shares.items()), *proved_of(limits, units)])
     return picture("shares", WIDTH, bottom + 54, "How many runs are cut, by the share of ticks that level 2 misses", f"{about}.", shapes)
