@@ -25,6 +25,7 @@ pub mod MissedRuns
 pub mod WrongVerdicts
 pub mod OneVerdict
 pub mod MissedStretchLaws
+pub mod GreatExcess
 pub mod StretchLaws
 pub mod LongestStretch
 pub mod BurstLaws

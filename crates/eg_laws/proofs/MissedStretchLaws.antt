@@ -31,7 +31,7 @@ use Rattle.eg_model.proofs.ClassLemmas.{sees_plain}
 use Rattle.eg_model.proofs.Seeing.{stays_low}
 use Rattle.eg_model.proofs.SpanRows.{proper-end}
 use Rattle.eg_model.proofs.TripLemmas.{trip_from_fed, off_by_latch1}
-use Rattle.eg_model.proofs.Silence.{wrongs, run_confirms, longer_run, enough_weight, opens_when_confirmed, off_by_latch2, period_least, send_within}
+use Rattle.eg_model.proofs.Silence.{wrongs, TrueRun, run_confirms, longer_run, enough_weight, opens_when_confirmed, off_by_latch2, period_least, send_within}
 use Rattle.eg_model.proofs.LapseRuns.{AllOrNone, AllOrNoneEach, lapse_all_or_none, trip_opens, whole-is, runs_in, runs_in-cons, AllExceed, AreLow, low_without_ramp, low_where_held, runs_find}
 use Rattle.eg_model.proofs.LapseAnswers.{goods_in, Judged, judged}
 use Rattle.eg_model.proofs.LapseLaw.{exceed_behind, off_no_excess, lapsing_history}
@@ -49,11 +49,11 @@ unfolding feeds_to_confirm
 confirming_verdicts s accepted = quotient_positive s.cal.times.weights.limit s.cal.times.weights.up
     (let a = accepted.answers.3 in omega (arith, a)) (let a = accepted.answers.0 in omega (arith, a))
 
--- in a stretch of excess level 2 had fewer runs than confirm
-pub few_runs : (s : Setting) → IsAccepted s.cal → (h : List Tick) → AllOrNoneEach h → AreProper s h → AreLow s h →
-    tripped (moments_of s h) ≡ false → (m : ℕ) → AllExceed s m h →
+-- where no trip came, and each of level 2's newest runs fed a bit that is set, these are fewer than confirm
+pub few_found : (s : Setting) → IsAccepted s.cal → (h : List Tick) (m : ℕ) → tripped (moments_of s h) ≡ false →
+    TrueRun (runs_in m (moments_of s h)) (fed_bits torque_bit (moments_of s h)) →
     runs_in m (moments_of s h) < feeds_to_confirm s.cal.rules.torque
-few_runs s accepted h each proper low untripped m exceed = elim (cases_lt (runs_in m past) runs) [
+few_found s accepted h m untripped found = elim (cases_lt (runs_in m past) runs) [
   | inl less ↦ less
   | inr enough ↦ absurd (true≢false (sym (trip_from_fed s h (confirmed enough)) ∙ untripped))
 ]
@@ -67,8 +67,14 @@ few_runs s accepted h each proper low untripped m exceed = elim (cases_lt (runs_
     confirmed : runs ≤ runs_in m past → is_confirmed s.cal.rules.torque (fed_bits torque_bit past) ≡ true
     confirmed enough = run_confirms s.cal.rules.torque runs (fed_bits torque_bit past)
         (let a = accepted.torque.3 in omega (arith, a)) (enough_weight s.cal.rules.torque (let a = accepted.torque.0 in omega (arith, a)))
-        (longer_run runs (runs_in m past) (fed_bits torque_bit past) enough
-        (runs_find s accepted h low each proper m exceed untripped))
+        (longer_run runs (runs_in m past) (fed_bits torque_bit past) enough found)
+
+-- so it is in a stretch of excess
+pub few_runs : (s : Setting) → IsAccepted s.cal → (h : List Tick) → AllOrNoneEach h → AreProper s h → AreLow s h →
+    tripped (moments_of s h) ≡ false → (m : ℕ) → AllExceed s m h →
+    runs_in m (moments_of s h) < feeds_to_confirm s.cal.rules.torque
+few_runs s accepted h each proper low untripped m exceed =
+    few_found s accepted h m untripped (runs_find s accepted h low each proper m exceed untripped)
 
 -- the numbers, where the worst-case reaction is r ticks
 reaction_is : (s : Setting) → IsAccepted s.cal →

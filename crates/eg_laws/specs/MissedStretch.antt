@@ -1,15 +1,20 @@
 -- Outside the headline. How long an excess may last under lapses, by every calibration that bounds it:
 -- without a ramp, with one that never comes down, or where one wrong verdict confirms.
-use Rattle.std.specs.Prelude.{◌+◌}
+use Rattle.std.specs.Prelude.{ℕ, ◌+◌, ◌*◌, ◌≤◌, List, length}
 use Rattle.eg_values.specs.Calibration.{CalibrationParts, IsAccepted}
-use Rattle.eg_values.specs.Excess.{BoundsMissed, longest_missed}
+use Rattle.eg_values.specs.Excess.{ticks_to_confirm, BoundsMissed, longest_missed}
 use Rattle.eg_fault.specs.Faults.{IsNoneOrValid}
+use Rattle.eg_record.specs.declared.row.Row.{Row}
 use Rattle.eg_record.specs.Spans.{EachDriveSpan}
+use Rattle.eg_model.specs.History.{Setting, Tick}
+use Rattle.eg_model.specs.Moments.{moments_of}
+use Rattle.eg_model.specs.Premises.{AreProper, Follows}
 use Rattle.eg_model.specs.Lapses.{IsLapse, StretchesStayBelow}
 use Rattle.eg_model.specs.Engines.{BenchEngine}
 use Rattle.eg_model.specs.Bench.{Run}
-use Rattle.eg_model.specs.Rows.{record_rows}
-use Rattle.eg_model.specs.Records.{IsRun, ExcessIsBelow}
+use Rattle.eg_model.specs.Rows.{rows_of, record_rows}
+use Rattle.eg_model.specs.Records.{IsRun, ExceedLast, ExcessIsBelow}
+use Rattle.eg_laws.specs.Availability.{missed_ticks}
 
 -- The law: no stretch of true excess has more ticks than `longest_missed` says.
 abbrev pub MissedStretchesEnd : Type 0
@@ -24,3 +29,26 @@ RecordsEndMissedStretches b =
     BoundsMissed r.setting.cal →
     EachDriveSpan (ExcessIsBelow r.setting.cal.rules.threshold (longest_missed r.setting.cal + 1))
     (record_rows b r)
+
+-- Under any ramp, whatever the answers: each tick that level 2 misses leaves its permitted torque at most `fall`
+-- further above the true one. So where it misses at most `missed` ticks of a span, an excess that is greater by
+-- `fall` for each of them lasts at most D ticks in a row and as many more. (Here h is the history up to the end
+-- of the stretch, and n the ticks of the stretch.)
+abbrev pub GreatExcessEnds : Type 0
+GreatExcessEnds =
+    (s : Setting) → IsAccepted s.cal → IsLapse s.fault → (start : ℕ) (h : List Tick) → Follows s.fault start h →
+    AreProper s h → (missed : ℕ) → missed_ticks s.fault start (length h) ≤ missed → (n : ℕ) →
+    ExceedLast (s.cal.rules.threshold + missed * s.cal.rules.fall) n (rows_of (moments_of s h)) →
+    n ≤ ticks_to_confirm s.cal + missed
+
+-- this is so of each stretch of these rows, if level 2 misses so few of them
+abbrev pub GreatExcessIsShort : Setting → (missed start : ℕ) → List Row → Type 0
+GreatExcessIsShort s missed start rows =
+    missed_ticks s.fault start (length rows) ≤ missed →
+    ExcessIsBelow (s.cal.rules.threshold + missed * s.cal.rules.fall) (ticks_to_confirm s.cal + missed + 1) start rows
+
+-- and so it is in each drive span of a record
+abbrev pub RecordsEndGreatExcess : {E : Type 0} → BenchEngine E → Type 0
+RecordsEndGreatExcess b =
+    (r : Run) → IsRun r → IsNoneOrValid r.setting.fault → IsLapse r.setting.fault → (missed : ℕ) →
+    EachDriveSpan (GreatExcessIsShort r.setting missed) (record_rows b r)

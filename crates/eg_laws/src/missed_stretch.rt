@@ -1,13 +1,17 @@
 // How long an excess may last under lapses.
 ghost use Rattle.eg_plant.specs.declared.engine_kind.EngineKind.{EngineKind};
 ghost use Rattle.eg_model.specs.Engines.{bench_of};
-ghost use Rattle.eg_laws.specs.MissedStretch.{MissedStretchesEnd, RecordsEndMissedStretches};
+ghost use Rattle.eg_laws.specs.MissedStretch.{MissedStretchesEnd, RecordsEndMissedStretches, GreatExcessEnds, RecordsEndGreatExcess};
 
 /// How long an excess may last under lapses (docs/CONCEPT.md, "Lapses"), by every calibration without a ramp,
 /// with one that never comes down, or with which one wrong verdict confirms: no stretch of true excess has
-/// more ticks than `eg_answer::longest_missed` gives. So it is for each engine in each drive span of a record. It
-/// does nothing when it runs.
+/// more ticks than `eg_answer::longest_missed` gives. So it is for each engine in each drive span of a record.
+/// And by every calibration, where level 2 misses at most m ticks of a drive span, no stretch of torque above
+/// the permitted torque, the threshold and m * `fall` together has more than D + m ticks. It does nothing when
+/// it runs.
 pub fn missed_excess_ends()
     ensures ends { MissedStretchesEnd }
     ensures records { (engine : EngineKind) → RecordsEndMissedStretches (bench_of engine) }
+    ensures great { GreatExcessEnds }
+    ensures great_records { (engine : EngineKind) → RecordsEndGreatExcess (bench_of engine) }
 {}
