@@ -183,7 +183,7 @@ far_misses_stay = far_misses_hide
 -- where one wrong verdict isn't enough to confirm, the weight of one lies below the limit
 pub one_miss_stays : (cal : CalibrationParts) → feeds_to_confirm cal.times.weights ≢ 1 → OneMissStays cal
 unfolding feeds_to_confirm
-one_miss_stays cal several accepted tick off within engine = one_miss_hides engine cal accepted below tick off within
+one_miss_stays cal several accepted onset after off valid engine = one_miss_hides engine cal accepted below onset after off valid
   where
     below : cal.times.weights.up < cal.times.weights.limit
     below = elim (cases_lt cal.times.weights.up cal.times.weights.limit) [

@@ -21,7 +21,8 @@ use Rattle.eg_desk.specs.declared.coverage.Off.TheVariants.{Never, After, Confir
 
 -- These numbers are those of a calibration: how many ticks in a row confirm a pair that disagrees, the
 -- worst-case reaction, the tick of its span at which a start-up test reads the paths back, how many wrong
--- verdicts in a row confirm, and how long an excess lasts under lapses, if that is bounded.
+-- verdicts in a row confirm, and how long an excess lasts under lapses, if a number is proved for the
+-- calibration.
 pub record AreTicks (cal : CalibrationParts) (ticks : CoverageTicks) : Type 0 where
   pub pair : ticks.pair ≡ feeds_to_confirm cal.rules.pair
   pub reaction : ticks.reaction ≡ reaction_of cal.times

@@ -14,7 +14,7 @@ use Rattle.eg_desk.specs.declared.limit.Limits.{Limits}
 -- cut before a watch trips; how many ticks in a row an excess lasts at the most; how far torque lies above
 -- what is permitted and the threshold together at the most; how many ticks the ramp takes from the permit
 -- table's greatest number to its least, if it comes down; and how many ticks in a row an excess lasts at the
--- most under lapses, if that is bounded.
+-- most under lapses, if a number is proved for the calibration.
 pub record AreLimits (cal : CalibrationParts) (limits : Limits) : Type 0 where
   pub reaction : limits.reaction ≡ reaction_of cal.times
   pub lapse : SomeIff limits.lapse (BoundsLapses cal)

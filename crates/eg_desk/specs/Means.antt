@@ -170,8 +170,8 @@ MovesStay = (engine : EngineKind) → MovesInWindowHide (bench_of engine)
 
 abbrev pub OneMissStays : CalibrationParts → Type 0
 OneMissStays cal =
-    IsAccepted cal → (tick : ℕ) → place_of cal.times tick ≢ cal.times.send → tick ≤ 19999 →
-    StaysHidden cal (single_miss tick)
+    IsAccepted cal → (onset after : ℕ) → place_of cal.times (onset + after) ≢ cal.times.send →
+    IsValid (single_miss onset after) → StaysHidden cal (single_miss onset after)
 
 abbrev pub FarMissesStay : Type 0
 FarMissesStay = (engine : EngineKind) → FarMissesHide (bench_of engine)
@@ -223,7 +223,7 @@ MeansFoundLapse cal row = (row.hidden ≡ false) × OfRuns cal (is_of name.Lapse
     FoundIn row.within (λ n. EachDriveSpan (FindsMisses fault n) rows)
     × OffAfter row.off (λ n. EachDriveSpan (CutsMisses fault n) rows))
 
--- how long an excess lasts under a lapse, or that the calibration doesn't bound it
+-- how long an excess lasts under a lapse, or that no number is proved for the calibration
 abbrev pub MeansMissed : CalibrationParts → Off → Type 0
 MeansMissed cal (Excess n) = OfRuns cal (is_of name.Lapse) (λ s fault rows.
     EachDriveSpan (ExcessIsBelow s.cal.rules.threshold n) rows)

@@ -234,7 +234,8 @@ pub struct CoverageTicks {
     pub test: u32,
     /// How many wrong verdicts in a row confirm.
     pub verdicts: u32,
-    /// How many ticks in a row an excess lasts at the most under lapses, if that is bounded.
+    /// How many ticks in a row an excess lasts at the most under lapses, if a number is proved for the
+    /// calibration.
     pub missed: Option<u32>,
 }
 
@@ -276,7 +277,7 @@ fn unfound(off: Off) -> CoverageRow
     }
 }
 
-/// How long a true excess may last under a lapse, if the calibration bounds it.
+/// How long a true excess may last under a lapse, if a number is proved for the calibration.
 #[tactic(auto, unfolding(crate::specs::Coverage::lapse_off))]
 fn lapse_off(longest: Option<u32>) -> Off
     requires { IfSome longest (λ ticks. ticks < 200000000) }

@@ -35,7 +35,7 @@ pub struct Limits {
     /// without a ramp, and None where the ramp never comes down.
     pub ramp: Option<u32>,
     /// How many ticks in a row an excess lasts at the most where level 2 misses ticks, whichever they are, if
-    /// that is bounded.
+    /// a number is proved for the calibration.
     pub missed: Option<u32>,
 }
 
@@ -72,8 +72,8 @@ pub(crate) fn lapse_of(calibration: &Calibration) -> Option<u32>
     lapse_bound(&rules.torque, calibration.times())
 }
 
-/// How many ticks in a row an excess lasts at the most under lapses, if the calibration bounds it
-/// (docs/CONCEPT.md, "Lapses").
+/// How many ticks in a row an excess lasts at the most under lapses, if a number is proved for the
+/// calibration (docs/CONCEPT.md, "Lapses").
 pub(crate) fn missed_of(calibration: &Calibration) -> Option<u32>
     ensures longest { SomeIff result (BoundsMissed calibration.now) (longest_missed calibration.now) }
     ensures within { IfSome result (λ ticks. ticks < 200000000) }

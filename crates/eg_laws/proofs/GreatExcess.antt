@@ -1,6 +1,6 @@
 -- Under any ramp each tick that level 2 misses leaves its permitted torque at most one fall further above the true one.
 -- So it sees each excess that is greater than these falls together.
-use Rattle.std.proofs.Common.{inl, inr, ◌⊎◌, ◌≡◌, ℕ, zero, suc, ◌+◌, ◌-◌, ◌*◌, ◌≤◌, ◌<◌, Bool, true, false, not, max, min, List, [], ◌∷◌, ◌++◌, length, length-append, map, take, None, refl, sym, ap, ◌∙◌, subst, arith}
+use Rattle.std.proofs.Common.{inl, inr, ◌⊎◌, ◌≡◌, ℕ, zero, suc, ◌+◌, ◌-◌, ◌*◌, ◌≤◌, ◌<◌, Bool, true, false, not, max, min, List, [], ◌∷◌, length, length-append, map, take, None, refl, sym, ap, ◌∙◌, subst, arith}
 use Rattle.std.specs.Prelude.{if◌then◌else◌, ◌==◌, slice_index}
 use Rattle.std.specs.List.{list_all}
 use Rattle.std.proofs.lemmas.Bool.{cases_Bool, cases_lt, and_parts, ltb-true, lt-ltb, eq-eqb}
@@ -11,8 +11,9 @@ use Rattle.eg_torque.specs.Ramp.{ramped}
 use Rattle.eg_torque.specs.Excess.{is_excess}
 use Rattle.eg_torque.specs.declared.ramp.TheConstants.{NO_RAMP}
 use Rattle.eg_torque.proofs.PermitLemmas.{grid_at-rises}
-use Rattle.eg_sensor.specs.Readings.{used_pedal, checked_raise, has_bit}
+use Rattle.eg_sensor.specs.Readings.{has_bit}
 use Rattle.eg_sensor.specs.declared.readings.Readings.{Readings}
+use Rattle.eg_answer.specs.Times.{feeds_to_confirm}
 use Rattle.eg_answer.specs.Formulas.{permitted_torque, excess_number}
 use Rattle.eg_answer.specs.declared.modules.TheConstants.{DEBOUNCE, PERMITTED}
 use Rattle.eg_values.specs.Calibration.{IsAccepted}
@@ -20,10 +21,9 @@ use Rattle.eg_values.specs.Excess.{ticks_to_confirm}
 use Rattle.eg_fault.specs.Effects.{Effects}
 use Rattle.eg_fault.specs.Faults.{effects}
 use Rattle.eg_plant.specs.PlantParts.{PlantParts}
-use Rattle.eg_record.specs.declared.row.Row.{Row}
 use Rattle.eg_record.specs.Excess.{true_excess}
 use Rattle.eg_model.specs.History.{Setting, Tick, Moment}
-use Rattle.eg_model.specs.Signals.{tripped, is_limited, no_signals, last_signals, signal}
+use Rattle.eg_model.specs.Signals.{tripped, no_signals, last_signals, signal}
 use Rattle.eg_model.specs.Detection.{feeds_at, fed_bits, torque_bit}
 use Rattle.eg_model.specs.Answers.{is_whole}
 use Rattle.eg_model.specs.Paths.{both_conduct}
@@ -32,7 +32,6 @@ use Rattle.eg_model.specs.Premises.{AreProper, IsProper, Follows}
 use Rattle.eg_model.specs.Rows.{row_of, rows_of}
 use Rattle.eg_model.specs.Lapses.{IsLapse}
 use Rattle.eg_model.specs.Engines.{BenchEngine, KeepsBenchLaws}
-use Rattle.eg_model.specs.Records.{ExceedLast}
 use Rattle.eg_model.proofs.TickLemmas.{Each, moment-exceeds, fields, untripped_before, length-moments}
 use Rattle.eg_model.proofs.TripLemmas.{exceeds, fed_bits-cons, fed_bits-skip}
 use Rattle.eg_model.proofs.Silence.{TrueRun}
@@ -301,7 +300,7 @@ module _ (s : Setting) (accepted : IsAccepted s.cal) (lapse : IsLapse s.fault) (
         let each = lapsing_history s lapse start h follows.1 in
         let one = subst AllOrNone (sym follows.0) (lapse_all_or_none s.fault lapse (start + length h)) in
         let untripped = untripped_where_on s x h each one on in
-        let seen = few_found s accepted h m untripped
+        let seen : runs_in m (moments_of s h) < feeds_to_confirm s.cal.rules.torque = few_found s accepted h m untripped
         (runs_find missed h each follows.1 proper.1 fewer m (and_parts _ _ great).1 untripped) in
         let all = ran_at h each follows.1 m (omega (arith, within)) in
         omega (arith, seen, all, fewer))

@@ -1,6 +1,5 @@
 -- Which faults can stay hidden: in the run at rest with the greatest raise no excess can be, and each class leaves alone what
 -- the pairs are judged by.
-use Rattle.std.proofs.lemmas.List.Elements.{All-cons, All-nil}
 use Rattle.std.proofs.Common.{◌≡◌, ◌∙◌, refl, sym, ap, subst, ℕ, ◌+◌, ◌-◌, ◌*◌, ◌/◌, ◌≤◌, ◌<◌, Bool, true, false, not, ◌&&◌, List, [], ◌∷◌, take, length, arith, inl, inr, ◌⊎◌, Some, None, IfSome, is_some, lit≤, min, max, nat_lt, ◌%◌}
 use Rattle.std.specs.Prelude.{if◌then◌else◌, slice_index}
 use Rattle.std.proofs.Math.Nat.{mul-le-mul}
@@ -18,7 +17,7 @@ use Rattle.eg_answer.specs.Periods.{verdict_of}
 use Rattle.eg_answer.specs.Formulas.{permitted_torque, estimated_torque, disagreeing_pairs}
 use Rattle.eg_values.specs.Calibration.{CalibrationParts, IsAccepted}
 use Rattle.eg_fault.specs.Effects.{Effects, no_effects, readings_under, contacts_under}
-use Rattle.eg_fault.specs.Faults.{effects_of, effects, is_lapse, IsValid, IsListed, IsValidClass}
+use Rattle.eg_fault.specs.Faults.{effects_of, effects, is_lapse, IsValid, IsListed}
 use Rattle.eg_fault.specs.Classes.{may_change_answers}
 use Rattle.eg_fault.specs.Running.{may_change_levels}
 use Rattle.eg_fault.specs.declared.class.Class.{Class}
@@ -232,18 +231,6 @@ answers_always s accepted f valid is hides x h each follows = elim (wild_or_not 
   | inr other ↦ answers_spared s accepted f valid is other x h each follows
 ]
 
-valid_miss : (tick : ℕ) → tick ≤ 19999 → IsValid (single_miss tick)
-unfolding IsValidClass
-valid_miss tick within = (
-  within,
-  (
-    (omega arith, omega arith),
-    All-cons (λ k. k ≤ 19999) 0 [] (omega arith) (All-nil (λ k. k ≤ 19999)),
-    (λ k l. absurd (omega (arith, l))),
-    omega arith,
-  ),
-)
-
 module _ (engine : EngineKind) where
   pub readings_apart_hide : ReadingsApartHide (bench_of engine)
   readings_apart_hide cal accepted f valid hides n = hidden_run engine cal accepted f valid loud loud_within refl n each
@@ -327,19 +314,19 @@ module _ (engine : EngineKind) where
   -- a single tick that is no send tick
   pub one_miss_hides : OneMissHides (bench_of engine)
   unfolding place_of
-  one_miss_hides cal accepted few tick off within = spared_hide cal accepted (single_miss tick)
-      (valid_miss tick within) (record { onset = tick; after = 0 ∷ []; every = 0; is = refl })
+  one_miss_hides cal accepted few onset after off valid = spared_hide cal accepted (single_miss onset after) valid
+      (record { onset = onset; after = after ∷ []; every = 0; is = refl })
       (λ s cal_is fault_is end. record {
-        lapse = record { onset = tick; after = 0 ∷ []; every = 0; is = fault_is };
+        lapse = record { onset = onset; after = after ∷ []; every = 0; is = fault_is };
         most = 1;
         some = omega arith;
         small = omega arith;
         few = subst (λ (c : CalibrationParts). 1 * c.times.weights.up < c.times.weights.limit) (sym cal_is) (omega (arith, few));
-        sent = λ t before out place. absurd (off (subst (λ (c : CalibrationParts). tick % c.times.period ≡ c.times.send) cal_is
+        sent = λ t before out place. absurd (off (subst (λ (c : CalibrationParts). (onset + after) % c.times.period ≡ c.times.send) cal_is
             (subst (λ n. n % s.cal.times.period ≡ s.cal.times.send)
-            (let once = misses_once tick (0 + t) (subst (λ g. misses_tick g (0 + t) ≡ true) fault_is out) in
-            let same : t ≡ tick = omega (arith, once) in same) place)));
+            (let once = misses_once onset after (0 + t) (subst (λ g. misses_tick g (0 + t) ≡ true) fault_is out) in
+            let same : t ≡ onset + after = omega (arith, once) in same) place)));
         apart = λ first second from before one two less. absurd (
-            let a = misses_once tick first (subst (λ g. misses_tick g first ≡ true) fault_is one) in
-            let b = misses_once tick second (subst (λ g. misses_tick g second ≡ true) fault_is two) in omega (arith, a, b, less));
+            let a = misses_once onset after first (subst (λ g. misses_tick g first ≡ true) fault_is one) in
+            let b = misses_once onset after second (subst (λ g. misses_tick g second ≡ true) fault_is two) in omega (arith, a, b, less));
       })

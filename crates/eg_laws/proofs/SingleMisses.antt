@@ -53,9 +53,9 @@ once onset after first second a b less = let p = a.place in let q = b.place in l
     omega (arith, p, q, l, m, less)
 
 -- the lapse of one tick alone misses no other
-pub misses_once : (tick t : ℕ) → misses_tick (Some (single_miss tick)) t ≡ true → t ≡ tick
+pub misses_once : (onset after t : ℕ) → misses_tick (Some (single_miss onset after)) t ≡ true → t ≡ onset + after
 unfolding turn
-misses_once tick t out = let c = comes tick 0 0 t out in let l = c.from in let p = c.place in omega (arith, l, p)
+misses_once onset after t out = let c = comes onset after 0 t out in let l = c.from in let p = c.place in omega (arith, l, p)
 
 -- two numbers of one place lie a whole turn apart
 pub turn_apart : (u v n : ℕ) → u % suc n ≡ v % suc n → u < v → u + suc n ≤ v

@@ -83,16 +83,17 @@ SingleMissesHide b =
     IsValid (record { onset = onset; class = Lapse (after ∷ []) every }) →
     CanStayHidden b cal (record { onset = onset; class = Lapse (after ∷ []) every })
 
--- the lapse that leaves out this tick alone
-abbrev pub single_miss : (tick : ℕ) → Fault
-single_miss tick = record { onset = tick; class = Lapse (0 ∷ []) 0 }
+-- the lapse that leaves out one tick alone, so many after its onset
+abbrev pub single_miss : (onset after : ℕ) → Fault
+single_miss onset after = record { onset = onset; class = Lapse (after ∷ []) 0 }
 
 -- Where one wrong verdict isn't enough to confirm, each such lapse can stay hidden if its tick isn't a send
 -- tick of a run without a reset. (There is such a tick by every calibration, as the one behind a send tick.)
 abbrev pub OneMissHides : {E : Type 0} → BenchEngine E → Type 0
 OneMissHides b =
-    (cal : CalibrationParts) → IsAccepted cal → cal.times.weights.up < cal.times.weights.limit → (tick : ℕ) →
-    place_of cal.times tick ≢ cal.times.send → tick ≤ 19999 → CanStayHidden b cal (single_miss tick)
+    (cal : CalibrationParts) → IsAccepted cal → cal.times.weights.up < cal.times.weights.limit →
+    (onset after : ℕ) → place_of cal.times (onset + after) ≢ cal.times.send →
+    IsValid (single_miss onset after) → CanStayHidden b cal (single_miss onset after)
 
 -- ---- offsets ----
 

@@ -30,14 +30,15 @@ RecordsEndMissedStretches b =
     EachDriveSpan (ExcessIsBelow r.setting.cal.rules.threshold (longest_missed r.setting.cal + 1))
     (record_rows b r)
 
--- Under any ramp, whatever the answers: each tick that level 2 misses leaves its permitted torque at most `fall`
--- further above the true one. So where it misses at most `missed` ticks of a span, an excess that is greater by
--- `fall` for each of them lasts at most D ticks in a row and as many more. (Here h is the history up to the end
--- of the stretch, and n the ticks of the stretch.)
+-- Under any ramp, whatever the answers: each tick that level 2 misses leaves its permitted torque at most
+-- `fall` further above the true one. So where it misses at most `missed` ticks of a span, an excess that is
+-- greater by `fall` for each of them lasts at most D ticks in a row and as many more. (Here h is the history
+-- up to the end of the stretch, and n the ticks of the stretch.)
 abbrev pub GreatExcessEnds : Type 0
 GreatExcessEnds =
-    (s : Setting) → IsAccepted s.cal → IsLapse s.fault → (start : ℕ) (h : List Tick) → Follows s.fault start h →
-    AreProper s h → (missed : ℕ) → missed_ticks s.fault start (length h) ≤ missed → (n : ℕ) →
+    (s : Setting) → IsAccepted s.cal → IsLapse s.fault → (start : ℕ) (h : List Tick) →
+    Follows s.fault start h → AreProper s h → (missed : ℕ) →
+    missed_ticks s.fault start (length h) ≤ missed → (n : ℕ) →
     ExceedLast (s.cal.rules.threshold + missed * s.cal.rules.fall) n (rows_of (moments_of s h)) →
     n ≤ ticks_to_confirm s.cal + missed
 
@@ -45,7 +46,8 @@ GreatExcessEnds =
 abbrev pub GreatExcessIsShort : Setting → (missed start : ℕ) → List Row → Type 0
 GreatExcessIsShort s missed start rows =
     missed_ticks s.fault start (length rows) ≤ missed →
-    ExcessIsBelow (s.cal.rules.threshold + missed * s.cal.rules.fall) (ticks_to_confirm s.cal + missed + 1) start rows
+    ExcessIsBelow (s.cal.rules.threshold + missed * s.cal.rules.fall) (ticks_to_confirm s.cal + missed + 1)
+    start rows
 
 -- and so it is in each drive span of a record
 abbrev pub RecordsEndGreatExcess : {E : Type 0} → BenchEngine E → Type 0

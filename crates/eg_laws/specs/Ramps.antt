@@ -33,8 +33,8 @@ RampIsShort cal start rows =
     All (λ row. row.drive.raise ≤ greatest_permitted cal.rules.permit) before →
     ramp_ticks cal.rules ≡ Some ticks → RampLasts cal n before → n ≤ ticks - 1
 
--- And at the n-th of these ticks it lies above the demand by at most that greatest number less the least, less
--- n falls.
+-- And at the n-th of these ticks it lies above the demand by at most that greatest number less the least,
+-- less n falls.
 abbrev pub RampComesDown : CalibrationParts → (start : ℕ) → List Row → Type 0
 RampComesDown cal start rows =
     (later before : List Row) (row : Row) (n : ℕ) → rows ≡ later ++ row ∷ before →

@@ -5,10 +5,10 @@ ghost use Rattle.eg_laws.specs.MissedStretch.{MissedStretchesEnd, RecordsEndMiss
 
 /// How long an excess may last under lapses (docs/CONCEPT.md, "Lapses"), by every calibration without a ramp,
 /// with one that never comes down, or with which one wrong verdict confirms: no stretch of true excess has
-/// more ticks than `eg_answer::longest_missed` gives. So it is for each engine in each drive span of a record.
-/// And by every calibration, where level 2 misses at most m ticks of a drive span, no stretch of torque above
-/// the permitted torque, the threshold and m * `fall` together has more than D + m ticks. It does nothing when
-/// it runs.
+/// more ticks than `eg_answer::longest_missed` gives. And by every calibration, if level 2 misses at most m
+/// ticks of a drive span, no stretch of torque above the permitted torque, the threshold and m * `fall`
+/// together has more than D + m ticks. So it is for each engine in each drive span of a record. It does
+/// nothing when it runs.
 pub fn missed_excess_ends()
     ensures ends { MissedStretchesEnd }
     ensures records { (engine : EngineKind) → RecordsEndMissedStretches (bench_of engine) }
