@@ -297,14 +297,18 @@ module _ (s : Setting) (accepted : IsAccepted s.cal) (lapse : IsLapse s.fault) (
     | inr off ↦ absurd (off_no_excess s x (moments_of s h) proper.0 off
         (exceeds_too (missed * fall) x (moments_of s h) (over (s.cal.rules.threshold + missed * fall) x (moments_of s h) _ (and_parts _ _ great).0)))
     | inl on ↦ (let fewer : misses h ≤ missed = omega (arith, few) in
+        let inside : m ≤ length h = omega (arith, within) in
         let each = lapsing_history s lapse start h follows.1 in
         let one = subst AllOrNone (sym follows.0) (lapse_all_or_none s.fault lapse (start + length h)) in
         let untripped = untripped_where_on s x h each one on in
-        let seen : runs_in m (moments_of s h) < feeds_to_confirm s.cal.rules.torque = few_found s accepted h m untripped
+        let seen = few_found s accepted h m untripped
         (runs_find missed h each follows.1 proper.1 fewer m (and_parts _ _ great).1 untripped) in
-        let all = ran_at h each follows.1 m (omega (arith, within)) in
-        omega (arith, seen, all, fewer))
+        fits (runs_in m (moments_of s h)) (misses h) seen (ran_at h each follows.1 m inside) fewer)
   ]
+    where
+      fits : (runs k : ℕ) → runs < feeds_to_confirm s.cal.rules.torque → m ≤ runs + k → k ≤ missed →
+          suc m ≤ feeds_to_confirm s.cal.rules.torque + missed
+      fits runs k seen all fewer = omega (arith, seen, all, fewer)
 
 length-rows_of : (past : List Moment) → length (rows_of past) ≡ length past
 unfolding rows_of
