@@ -1,10 +1,10 @@
 -- The headline of coupled runs: by the laws of records, which hold of each engine of the bench, and so of the one that
 -- shows what the partner answered.
-use Rattle.std.proofs.Common.{◌≡◌, ◌∙◌, sym, ap, ap₂, refl, subst, ℕ, true, false, List, [], ◌∷◌, map, All}
-use Rattle.std.proofs.lemmas.List.Elements.{All-head, All-tail, All-cons, All-nil}
+use Rattle.std.proofs.Common.{◌≡◌, ◌+◌, ◌≤◌, ◌∙◌, max, length, arith, sym, ap, ap₂, refl, subst, ℕ, true, false, List, [], ◌∷◌, map, All}
+use Rattle.std.proofs.lemmas.List.Elements.{All-head, All-tail, All-cons, All-nil, All-weaker}
 use Rattle.eg_answer.specs.Times.{reaction_of, test_ticks_of}
 use Rattle.eg_values.specs.Calibration.{IsAccepted}
-use Rattle.eg_values.specs.Excess.{ticks_to_confirm, longest_stretch}
+use Rattle.eg_values.specs.Excess.{ticks_to_confirm, longest_stretch, longest_missed}
 use Rattle.eg_fault.specs.Faults.{effects, IsNoneOrValid}
 use Rattle.eg_fault.specs.declared.paths.TheConstants.{PATH_1, PATH_2}
 use Rattle.eg_plant.specs.Engine.{Shown}
@@ -18,7 +18,7 @@ use Rattle.eg_model.specs.PowerCycles.{SpansBeginInTurn}
 use Rattle.eg_model.specs.Engines.{BenchEngine, KeepsBenchLaws, IsOneLoad, ShowsOneLoad}
 use Rattle.eg_model.specs.Bench.{Run}
 use Rattle.eg_model.specs.Rows.{row_of, rows_of, record_rows}
-use Rattle.eg_model.specs.Records.{IsRun, ReactWithin, RowsReactAtOnce, CutFromOnset, CutOneTickAfter, CutSharplyBefore, CutStandingExcess, ExcessIsShort, AreOff, NeverFails}
+use Rattle.eg_model.specs.Records.{IsRun, ReactWithin, RowsReactAtOnce, CutFromOnset, CutOneTickAfter, CutSharplyBefore, CutStandingExcess, ExcessIsBelow, ExcessIsShort, AreOff, NeverFails}
 use Rattle.eg_laws.specs.Findings.{FindsBeforeOff, FindsFailure, FindsFromOnset, FindsSharply, TellsFlips}
 use Rattle.eg_laws.specs.Showing.{ArePermitted, ShowsRun}
 use Rattle.eg_model.specs.Outputs.{running, without_slices, without_level1, without_outputs}
@@ -34,9 +34,10 @@ use Rattle.eg_laws.specs.Availability.{AvailableIfSpaced}
 use Rattle.eg_laws.specs.MissedTicks.{CutForGood, MissesAreCut}
 use Rattle.eg_laws.proofs.StretchRows.{records_end_stretches, records_end_stretches_at_once, records_are_sparse}
 use Rattle.eg_laws.proofs.AvailabilityRecords.{records_stay_available}
-use Rattle.eg_laws.proofs.MissedTickRecords.{records_cut_misses, records_cut_for_good}
+use Rattle.eg_laws.proofs.MissedTickRecords.{records_cut_misses, records_cut_for_good, records_open_on_misses}
+use Rattle.eg_laws.proofs.MissedStretchLaws.{records_end_missed_stretches}
 use Rattle.eg_stream.specs.Coupled.{CoupledUnit, AreTaken, entry_by, entries_by, coupled_moments, coupled_rows}
-use Rattle.eg_stream.specs.Headline.{ShowsAnswers, SharpHeadline, CoupledHeadline, HasOneLoad, ActsByOutputs, KeepsCoupledHeadline}
+use Rattle.eg_stream.specs.Headline.{ShowsAnswers, SharpHeadline, OpensAfterMisses, CoupledHeadline, HasOneLoad, ActsByOutputs, KeepsCoupledHeadline}
 use Rattle.eg_stream.proofs.TakenLemmas.{AreLawful, taken-are-lawful, taken-proper_run}
 use Rattle.eg_stream.proofs.Spoken.{Spoken, SpokenKeeps, spoken, spoken-keeps, spoken-one_load, as_told, as_told-way, one_load, one_load-way}
 use Rattle.eg_stream.proofs.RowLemmas.{rows_show_answers}
@@ -142,9 +143,16 @@ module _ (unit : CoupledUnit) (answers : List PartnerAnswer) (accepted : IsAccep
     tells_flips = to (TellsFlips s.fault) (records_tell_flips (b as_told shown) r);
     lapses = λ bound lapse. to (EachDriveSpan (CutStandingExcess s.cal)) (records_cut_standing_excess keeps r run valid bound lapse);
     short = λ bound lapse. to (EachDriveSpan (ExcessIsShort s.cal)) (records_have_short_excess keeps r run valid bound lapse);
+    missed = λ bound lapse. to (EachDriveSpan (ExcessIsBelow s.cal.rules.threshold (longest_missed s.cal + 1)))
+        (records_end_missed_stretches keeps r run valid lapse bound);
     misses = λ keeping. to (EachDriveSpan (MissesAreCut s)) (records_cut_misses keeps r run valid keeping);
     for_good = λ onset never. to (EachDriveSpan (CutForGood onset (reaction_of s.cal.times)))
         (records_cut_for_good (b as_told shown) r run onset never);
+    one_verdict = λ lapse single. to (EachDriveSpan (OpensAfterMisses s)) (λ newer span older parts drives tick from missed. All-weaker
+        (λ row. max tick (length older) + reaction_of s.cal.times ≤ row.tick → row.path2 ≡ false)
+        (λ row. tick + reaction_of s.cal.times ≤ row.tick → row.path2 ≡ false)
+        (λ row opens late. opens (omega (arith, late, from))) span
+        (records_open_on_misses (b as_told shown) r run lapse single newer span older parts drives tick from missed));
     stretches = λ listed. to (EachDriveSpan (RowsEndStretches s.cal.rules.threshold (longest_stretch s.cal)))
         (records_end_stretches keeps r run listed);
     stretches_at_once = λ listed. to (EachDriveSpan (RowsEndStretchesAtOnce s.fault s.cal.rules.torque s.cal.rules.threshold (ticks_to_confirm s.cal)))

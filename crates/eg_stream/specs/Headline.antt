@@ -1,9 +1,9 @@
 -- The headline of a coupled run: whatever the partner's engine does, its rows keep the laws that hold of
 -- every engine. It is said of answers that were taken, and nothing else is asked of the partner. Four laws
 -- hold only if the engine showed one load twice at each tick (`sharp`). Rows stand newest first.
-use Rattle.std.specs.Prelude.{◌≡◌, ℕ, true, false, List, [], ◌∷◌, All, map, length, Some, None}
-use Rattle.eg_answer.specs.Times.{reaction_of, test_ticks_of}
-use Rattle.eg_values.specs.Excess.{BoundsLapses, ticks_to_confirm, longest_stretch}
+use Rattle.std.specs.Prelude.{◌≡◌, ◌+◌, ◌≤◌, ℕ, true, false, List, [], ◌∷◌, All, map, length, Some, None}
+use Rattle.eg_answer.specs.Times.{feeds_to_confirm, reaction_of, test_ticks_of}
+use Rattle.eg_values.specs.Excess.{BoundsLapses, BoundsMissed, ticks_to_confirm, longest_stretch, longest_missed}
 use Rattle.eg_fault.specs.Faults.{effects, IsListed}
 use Rattle.eg_fault.specs.declared.paths.TheConstants.{PATH_1, PATH_2}
 use Rattle.eg_input.specs.declared.answered.PartnerAnswer.{PartnerAnswer}
@@ -17,14 +17,15 @@ use Rattle.eg_laws.specs.Showing.{HasShown, ArePermitted}
 use Rattle.eg_model.specs.Premises.{IsProperRun}
 use Rattle.eg_model.specs.PowerCycles.{SpansBeginInTurn}
 use Rattle.eg_model.specs.Records.{ReactWithin, RowsReactAtOnce, CutFromOnset, CutOneTickAfter}
-use Rattle.eg_model.specs.Records.{CutSharplyBefore, CutStandingExcess, ExcessIsShort, AreOff, NeverFails}
+use Rattle.eg_model.specs.Records.{CutSharplyBefore, CutStandingExcess, ExcessIsBelow, ExcessIsShort, AreOff,
+    NeverFails}
 use Rattle.eg_laws.specs.Findings.{FindsBeforeOff, FindsFailure, FindsFromOnset, FindsSharply, TellsFlips}
 use Rattle.eg_model.specs.Lapses.{IsLapse}
 use Rattle.eg_model.specs.Engines.{IsOneLoad}
 use Rattle.eg_model.specs.Outputs.{running, without_outputs}
 use Rattle.eg_laws.specs.Stretches.{RowsEndStretches, RowsEndStretchesAtOnce}
 use Rattle.eg_laws.specs.Bursts.{RowsAreSparse}
-use Rattle.eg_laws.specs.Availability.{AvailableIfSpaced}
+use Rattle.eg_laws.specs.Availability.{AvailableIfSpaced, misses_tick}
 use Rattle.eg_laws.specs.MissedTicks.{KeepsMissing, never_again, CutForGood, MissesAreCut}
 use Rattle.eg_stream.specs.Coupled.{CoupledUnit, entry_by, entries_by, coupled_rows}
 
@@ -41,6 +42,12 @@ pub record SharpHeadline (s : Setting) (rows : List Row) : Type 0 where
       s.cal.rules.threshold) rows
   -- misses of a lapse that lie far enough apart never cut
   pub stays_available : EachDriveSpan (AvailableIfSpaced s) rows
+
+-- Of a drive span: path 2 doesn't conduct from R ticks on after a tick of it that level 2 misses.
+abbrev pub OpensAfterMisses : Setting → (start : ℕ) → List Row → Type 0
+OpensAfterMisses s start rows =
+    (tick : ℕ) → start ≤ tick → misses_tick s.fault tick ≡ true →
+    All (λ row. tick + reaction_of s.cal.times ≤ row.tick → row.path2 ≡ false) rows
 
 pub record CoupledHeadline (s : Setting) (rows : List Row) (one_load : Type 0) : Type 0 where
   -- spans begin in turn, and the stages are on exactly if both paths conduct in a drive span
@@ -66,11 +73,17 @@ pub record CoupledHeadline (s : Setting) (rows : List Row) (one_load : Type 0) :
       EachDriveSpan (CutStandingExcess s.cal) rows
   pub short : BoundsLapses s.cal → IsLapse s.fault →
       EachDriveSpan (ExcessIsShort s.cal) rows
+  -- no excess under lapses lasts longer than `missed` of `limits`, by every calibration that has this number
+  pub missed : BoundsMissed s.cal → IsLapse s.fault →
+      EachDriveSpan (ExcessIsBelow s.cal.rules.threshold (longest_missed s.cal + 1)) rows
   -- where level 2 keeps missing ticks R is kept, and from R ticks after each missed one the stages are off;
   -- so they are from R ticks after the onset of a lapse by which it never runs again
   pub misses : KeepsMissing s.fault s.cal.times.period → EachDriveSpan (MissesAreCut s) rows
   pub for_good : (onset : ℕ) → s.fault ≡ Some (never_again onset) →
       EachDriveSpan (CutForGood onset (reaction_of s.cal.times)) rows
+  -- where one wrong verdict confirms, path 2 is open from R ticks after each missed tick of a lapse
+  pub one_verdict : IsLapse s.fault → feeds_to_confirm s.cal.times.weights ≡ 1 →
+      EachDriveSpan (OpensAfterMisses s) rows
   -- how long an excess lasts, and how often it may come again
   pub stretches : IsListed s.fault → EachDriveSpan (RowsEndStretches s.cal.rules.threshold
       (longest_stretch s.cal)) rows
