@@ -17,8 +17,14 @@ use Rattle.eg_laws.specs.Showing.{HasShown, ArePermitted}
 use Rattle.eg_model.specs.Premises.{IsProperRun}
 use Rattle.eg_model.specs.PowerCycles.{SpansBeginInTurn}
 use Rattle.eg_model.specs.Records.{ReactWithin, RowsReactAtOnce, CutFromOnset, CutOneTickAfter}
-use Rattle.eg_model.specs.Records.{CutSharplyBefore, CutStandingExcess, ExcessIsBelow, ExcessIsShort, AreOff,
-    NeverFails}
+use Rattle.eg_model.specs.Records.{
+  CutSharplyBefore,
+  CutStandingExcess,
+  ExcessIsBelow,
+  ExcessIsShort,
+  AreOff,
+  NeverFails,
+}
 use Rattle.eg_laws.specs.Findings.{FindsBeforeOff, FindsFailure, FindsFromOnset, FindsSharply, TellsFlips}
 use Rattle.eg_model.specs.Lapses.{IsLapse}
 use Rattle.eg_model.specs.Engines.{IsOneLoad}
