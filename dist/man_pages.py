@@ -3,8 +3,8 @@
 import re
 from itertools import takewhile
 
-from lib.documents import ITEM, blocks_of, cells_of
-from lib.program import own_warning
+from egasim_tools.base.documents import ITEM, blocks_of, cells_of
+from egasim_tools.base.program import own_warning
 
 WIDTH = 70  # characters of a table that stands as it is
 CHARACTERS = {"\\": r"\e", "-": r"\-", "'": r"\(aq", "`": r"\(ga", "^": r"\(ha", "~": r"\(ti"}
