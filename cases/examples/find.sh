@@ -39,7 +39,7 @@ find --thresholds 0,100 --ramps 0,50-150/50
 find --thresholds 0,100 --ramps 50-150/50 --without-lapses --write ramped.toml
 head -n 2 ramped.toml
 diff examples/calibration/reference.toml ramped.toml | grep -E '^[<>] (version|threshold|brake|fall) '
-./egasim limits --cal ramped.toml | grep -E '^(lapse|ramp) '
+./egasim limits --cal ramped.toml | grep -E '^(missed|ramp) '
 ./egasim find examples/first_run/diesel.toml --cal examples/calibration/ramp.toml --tolerant 75 --thresholds 200
 ./egasim find examples/first_run/diesel.toml --cal examples/calibration/ramp.toml --tolerant 30 --thresholds 200 --without-lapses --without-held-torque
 ./egasim find examples/first_run/diesel.toml --cal ramped.toml --tolerant 30 --thresholds 200 --ramps 0,120 --write plain.toml

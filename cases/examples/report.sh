@@ -19,16 +19,19 @@ done
 grep -c "<code>$(./egasim table --cal examples/calibration/strict.toml examples/first_run/sweep.toml | sha256sum | sed 's/ .*//')</code>" page.html
 
 # What the verdict says of time: a tick and the fall are taken off. With D 5 the bound for lapses is that of listed faults;
-# with D 11, more than the period, it is another; and there may be none, as there is with a ramp.
+# with D 12, two more than the period, it is another, also by weights for which `lapse` is none. With a ramp there is none,
+# unless N is 1.
 verdict() { ./egasim report "$@" | sed -n '/"verdict"/,/<\/ul>/{s/<[^>]*>//g;/./p}'; }
 time_said() { echo "-- $*" && verdict examples/first_run/levels.toml "$@" | grep 'an excess lasts\|No lapse\|for ever'; }
-sed '/^.torque/,/^.pairs/s/^limit = .*/limit = 11/' examples/calibration/reference.toml >slow.toml
-sed '/^.answers/,/^.question/s/^up = .*/up = 1/; /^.answers/,/^.question/s/^limit = .*/limit = 3/' slow.toml >unbounded.toml
+sed '/^.torque/,/^.pairs/s/^limit = .*/limit = 12/' examples/calibration/reference.toml >slow.toml
+sed '/^.answers/,/^.question/{s/^up = .*/up = 1/; s/^down = .*/down = 3/; s/^limit = .*/limit = 3/}' slow.toml >light.toml
+sed '/^.answers/,/^.question/s/^limit = .*/limit = 3/' examples/calibration/ramp.toml >once.toml
 time_said --tolerant 39
 time_said --tolerant 40 --falls 1
 time_said --tolerant 40 --falls 2
-time_said --tolerant 119 --falls 0 --cal slow.toml
-time_said --tolerant 120 --falls 0 --cal unbounded.toml
+time_said --tolerant 54 --falls 0 --cal slow.toml
+time_said --tolerant 65 --falls 0 --cal light.toml
+time_said --tolerant 66 --falls 0 --cal once.toml
 time_said --tolerant 85 --falls 0 --cal examples/calibration/ramp.toml
 time_said --tolerant 86 --falls 0 --cal examples/calibration/ramp.toml --without-lapses
 time_said --tolerant 39 --falls 0 --cal examples/calibration/ramp.toml --without-held-torque --without-lapses --tick 10ms

@@ -15,7 +15,7 @@ MOST_DIGITS = 400  # behind a point
 LONG = 10 * NANOSECONDS["s"]  # from here on a time is told in seconds
 # What the columns of `table` and `margins`, and the lines of `limits`, are counted in.
 OF_TICKS = ("onset", "first_at", "cut_at", "off_at", "last_on", "confirmed", "stretch", "reaction", "bound", "trap_at", "lapse",
-            "excess", "test", "spacing", "ramp")
+            "excess", "test", "spacing", "ramp", "missed")
 OF_TORQUE = ("peak", "surplus")  # tenths of Nm
 
 

@@ -208,7 +208,7 @@ class Search:
         own, tries = {key: self.start["answers"][key] for key in TIMES}, []
         for times in [own] if self.asked.keep_times else self.times_for(row):
             limits = self.limits_by(self.put(self.text_with(row, row.limit, row.pairs_limit, times)))
-            hindrance, far = self.hindrance_of(row, limits, times)
+            hindrance, far = self.hindrance_of(row, limits)
             tries.append((far, hindrance, limits, times))
             if hindrance in ("", NO_BOUND, row.within):
                 break
@@ -224,7 +224,7 @@ class Search:
             last = period - 1
             yield {"period": period, "first": max(0, last - lead), "last": last, "send": last, "limit": wrong * up}
 
-    def hindrance_of(self, row, limits, times):
+    def hindrance_of(self, row, limits):
         """Which number keeps these times from fitting, or nothing; and by how much, so that fewer are nearer."""
         left, spacing, asks_lapses = self.asked.left, self.asked.spacing, WITHOUT_LAPSES not in self.asked.said
         lasts = int(limits["stretch"]) + row.held
@@ -232,13 +232,10 @@ class Search:
             return row.within, (4, 0)
         if lasts > left:
             return f"{'with the ramp' if row.held else 'stretch'} {lasts} is above {left}", (3, lasts - left)
-        if row.fall and asks_lapses:
+        if asks_lapses and limits["missed"] == "none":
             return NO_BOUND, (2, 0)
-        if int(limits["excess"]) > times["period"] and asks_lapses:
-            if limits["lapse"] == "none":
-                return "under lapses no bound is known: lapse none", (2, 0)
-            if int(limits["lapse"]) - 1 > left:
-                return f"under lapses {int(limits['lapse']) - 1} is above {left}", (1, int(limits["lapse"]))
+        if asks_lapses and int(limits["missed"]) + row.held > left:
+            return f"under lapses {int(limits['missed']) + row.held} is above {left}", (1, int(limits["missed"]))
         if spacing is not None and (limits["spacing"] == "none" or int(limits["spacing"]) > spacing):
             return f"spacing {limits['spacing']} is above {spacing}", (1, 0)
         return "", (0, 0)

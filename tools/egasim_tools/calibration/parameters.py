@@ -39,15 +39,6 @@ def torque_weights_of(calibration):
     return weights
 
 
-def period_of(calibration):
-    """The period of the questions by a calibration file or the reference calibration, in ticks."""
-    answers = calibration_of(calibration).get("answers")
-    period = answers.get("period") if isinstance(answers, dict) else None
-    if type(period) is not int or period < 1:
-        fail(f"{calibration or 'the reference calibration'} has no number answers.period")
-    return period
-
-
 def weight_limits_of(calibration):
     """The weight at which each watch finds something, by a calibration file or the reference calibration."""
     tables, limits = calibration_of(calibration), {}

@@ -6,7 +6,7 @@ from egasim_tools.calibration.limit_search import is_on_front
 from egasim_tools.report.svg import DARK, GRID, INK, MIDDLE, box, line, picture, step_of, text
 
 WIDTH, HEIGHT, LEFT, TOP = 640, 240, 48, 20
-NUMBERS = ("threshold", "weight", "limit", "excess", "verdicts", "period", "reaction", "stretch", "lapse", "spacing")
+NUMBERS = ("threshold", "weight", "limit", "excess", "verdicts", "period", "reaction", "stretch", "missed", "spacing")
 OF_RAMPS, WITH_RAMP = ("threshold", "fall", "ramp"), "with the ramp"
 
 

@@ -29,8 +29,9 @@ def spans_of(resets, ticks, test):
 
 
 def sure_row(coverage, kind):
-    """The row of `coverage` by which faults of a class are always found, if it is the only such one."""
-    sure = [row for row in coverage if (row["class"], row["hidden"]) == (kind, "0")]
+    """The row of `coverage` by which faults of a class are always found, if it is the only such one. That of a lapse doesn't count
+    from the onset, but from each missed tick."""
+    sure = [row for row in coverage if (row["class"], row["hidden"]) == (kind, "0") and kind != "lapse"]
     return sure[0] if len(sure) == 1 else None
 
 

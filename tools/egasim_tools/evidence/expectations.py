@@ -6,7 +6,7 @@ from egasim_tools.base.toml import toml_of, toml_text
 from egasim_tools.base.tool import fail
 from egasim_tools.base.units import time_of, units_of
 
-TIMES = ("reaction", "lapse", "excess", "test", "spacing", "stretch", "ramp")  # lines of `limits` in ticks
+TIMES = ("reaction", "lapse", "excess", "test", "spacing", "stretch", "ramp", "missed")  # lines of `limits` in ticks
 LIMITS = (*TIMES, "verdicts", "peak")
 CUTTING = ("mirror", "plate", "load", "speed", "torque", "answers", "start")
 MOST_NUMBER, MOST_TICKS = 65535, 4294967295

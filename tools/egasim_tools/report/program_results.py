@@ -15,7 +15,7 @@ from egasim_tools.base.records import drive_of, record_of
 from egasim_tools.base.toml import toml_in
 from egasim_tools.base.tool import fail
 from egasim_tools.base.units import beside, units_of
-from egasim_tools.calibration.parameters import calibration_of, has_ramp, period_of, threshold_of, weight_limits_of
+from egasim_tools.calibration.parameters import calibration_of, has_ramp, threshold_of, weight_limits_of
 from egasim_tools.calibration.question_coverage import cover_of, missing
 from egasim_tools.calibration.questions import answer_of
 from egasim_tools.evidence.conclusive_runs import Shown, recording_shown, where
@@ -67,7 +67,6 @@ class Played(Inputs):
         for name in self.inputs:
             self.add_sum(name)
         self.threshold = threshold_of(calibration)
-        self.period = period_of(calibration)
         self.has_ramp = has_ramp(calibration)
         self.weights, self.pairs = weight_limits_of(calibration), calibration_of(calibration)["pairs"]
         self.records = {row["run"]: self.record(row["run"]) for row in self.rows}

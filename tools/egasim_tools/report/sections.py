@@ -21,7 +21,7 @@ from egasim_tools.report.verdicts import first_ramp_said, is_on_first_ramp, name
 MOST_EVENTS, MOST_MARKS, MOST_CUTS = 30, 12, 12
 TAKEN = ("Of each class the most ticks from the onset, or the later begin of the span, to the one at which the first watch finds "
          "something, both counted. A dashed line is the most by <code>within</code>, where <code>hidden</code> is 0 in one row of the "
-         "class; else a bar is white. Runs in which something is found before the onset, or answers are sent within their window, "
+         "class, but not for a lapse, which may miss no tick at its onset; else a bar is white. Runs in which something is found before the onset, or answers are sent within their window, "
          "don't count, and of a path that can't open only what a start-up test finds.")
 FOLDED = ("Files and texts", "Recorded readings", "Coupled runs")  # claims that a page tells in one line
 LAST_NUMBER = re.compile(r"[0-9]+$")

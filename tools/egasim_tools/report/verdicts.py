@@ -86,42 +86,24 @@ def listed_point(played, asked):
                        "A calibration without a ramp is of version 1 or 2.")
     if played.has_ramp and WITHOUT_HELD in asked.said:
         under += f", and where {SAID[WITHOUT_HELD]}, as was said ({WITHOUT_HELD}),"
-    return time_point(under, int(played.limits["stretch"]), asked, played.units, held=held)
+    return time_point(under, int(played.limits["stretch"]), asked, played.units, held)
 
 
 def lapse_point(played, asked):
     """Whether an excess ends in time under lapses, unless the words of the call say that there are none."""
     if WITHOUT_LAPSES in asked.said:
         return FITS, f"No lapse, a class which isn't listed, is judged: {SAID[WITHOUT_LAPSES]}, as was said ({WITHOUT_LAPSES})."
-    return time_point("Under lapses, which aren't listed,", lapse_stretch(played), asked, played.units, no_bound(played))
+    under, missed = "Under lapses, which aren't listed,", played.limits["missed"]
+    if missed == "none":
+        return FAILS, (f"{under} no bound holds for how long an excess lasts, but for those of claim 93: with a ramp (permit.fall) what level "
+                       "2 permits doesn't fall at the ticks that it misses, and so may stand above what is permitted. With fall 5 and one tick in "
+                       "100 missed an excess can last for ever. Where level 2 never misses a tick, --without-lapses says so.")
+    return time_point(under, int(missed), asked, played.units, held_of(played.limits, asked.said) or 0)
 
 
-def lapse_stretch(played):
-    """How many ticks in a row an excess may last under lapses; None if no bound holds, or none is known
-    (docs/CONCEPT.md, "Lapses")."""
-    limits = played.limits
-    if played.has_ramp:
-        return None
-    if int(limits["excess"]) <= played.period:
-        return int(limits["stretch"])
-    return None if limits["lapse"] == "none" else int(limits["lapse"]) - 1
-
-
-def no_bound(played):
-    """Why `limits` may print no bound for lapses. With a ramp none holds; else the weights leave it open."""
-    if played.has_ramp:
-        return ("no bound holds for how long an excess lasts, but for those of claim 93: with a ramp (permit.fall) what level 2 "
-                "permits doesn't fall at the ticks that it misses, and so may stand above what is permitted. With fall 5 and one "
-                "tick in 100 missed an excess can last for ever. Where level 2 never misses a tick, --without-lapses says so")
-    return ("no bound is known for how long an excess lasts: right verdicts may take back what the wrong ones add (up, down and "
-            "limit of the answers)")
-
-
-def time_point(under, ticks, asked, units=Units(), unbounded="", held=0):
+def time_point(under, ticks, asked, units=Units(), held=0):
     """Whether an excess ends in time (docs/CALIBRATING.md, "Step by step"), counted with the ticks before it for which the
     torque is held on the ramp."""
-    if ticks is None:
-        return FAILS, f"{under} {unbounded}."
     lasts = f"{under} an excess lasts {units.ticks(ticks, 'ticks')} in a row at the most"
     if held:
         ticks += held
@@ -204,8 +186,9 @@ def misses_point(played):
                       f"no such cut (spacing).{ramp}")
     if wrong > 2:
         return FAILS, "Missed ticks add up to a cut, however far apart they lie (spacing none): no right answer takes one back."
-    return FAILS, (f"{'One wrong answer cuts' if wrong == 1 else 'Two wrong answers in a row cut'}, and so one missed tick may (N = {wrong}, "
-                   "spacing none).")
+    if wrong == 1:
+        return FAILS, "One wrong answer cuts, and so does each missed tick of a drive span (N = 1, spacing none)."
+    return FAILS, "Two wrong answers in a row cut, and so one missed tick may (N = 2, spacing none)."
 
 
 def peak_point(played):

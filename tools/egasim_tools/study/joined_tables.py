@@ -6,31 +6,35 @@ import sys
 from collections import Counter
 from operator import itemgetter
 
-from egasim_tools.base.files import read, sum_of, sum_of_file, text_of, written
+from egasim_tools.base.files import read, refuse_input, sum_of, sum_of_file, text_of, write, written
 from egasim_tools.base.tool import as_noted, fail
 from egasim_tools.base.units import Units, units_of
 from egasim_tools.evidence.detection import HEADS, first_of, matrix
 from egasim_tools.evidence.kept_calls import calls_kept, files_of
 from egasim_tools.evidence.run_results import lacking
+from egasim_tools.study.missed_shares import draws_shares, lines_of, picture_of, shares_of
 from egasim_tools.study.study_folder import called, line_of, program_of, words_of
 
 ROW = re.compile(r'[^"\n]*+(?:"[^"]*+"[^"\n]*+)*+\n')  # of a plan: what stands in quotes may go over lines
 SUMMED = ("class", "onset", "acted", "first", "confirmed", "stretch", "reaction", "settled", "bound")  # columns of `table`
 
 
-def join(path, tick=None, folder=None):
+def join(path, tick=None, folder=None, image=None):
     """Writes study.csv and matrix.csv of the tables that count, prints their summary, and tells which campaigns have none. A study that has
-    all is kept in a folder, if one is named."""
+    all is kept in a folder, if one is named; and drawn, how many runs are cut by the share of missed ticks."""
     refuse_changes(path)
+    if image:
+        refuse_input(image, [os.path.join(path, name) for name in ("MANIFEST", "study.csv", "matrix.csv", *names_of(path))])
     way = program_of(path)
     units = units_of(tick, [os.path.join(path, "inputs", "calibration.toml")])
     numbers = sorted(name[:-5] for name in os.listdir(f"{path}/campaigns") if name.endswith(".toml"))
     faults = {number: fault_of_table(path, number) for number in numbers}
     good = [number for number in numbers if not faults[number]]
     with calls_kept(folder, way, path) as kept:
-        bounds = bounds_of(path)
+        limits = limits_of(path)
         if good:
-            print_summary(write_joined(path, good), bounds, units)
+            print_summary(write_joined(path, good), [int(limits[name]) for name in ("reaction", "stretch")], units)
+            tell_shares(path, limits, units, image)
         for number in numbers:
             if faults[number]:
                 print(as_noted(f"campaign {number}: {faults[number]}"), file=sys.stderr)
@@ -55,10 +59,15 @@ def keep_tables(kept, path, numbers):
     return kept.sealed(["MANIFEST", "study.csv", "matrix.csv"])
 
 
+def names_of(path):
+    """The checksums of the files of the folder, as they were written, by their names."""
+    lines = (line.partition("  ") for line in text_of(os.path.join(path, "MANIFEST")).splitlines())
+    return {name: total for total, _, name in lines}
+
+
 def refuse_changes(path):
     """Ends if a file of the folder isn't as it was written."""
-    for line in text_of(os.path.join(path, "MANIFEST")).splitlines():
-        total, _, name = line.partition("  ")
+    for name, total in names_of(path).items():
         if not os.path.isfile(os.path.join(path, name)) or sum_of_file(os.path.join(path, name)) != total:
             fail(f"{path}/{name} isn't as the study was made")
 
@@ -75,15 +84,27 @@ def fault_of_table(path, number):
     return None
 
 
-def bounds_of(path):
-    """R and D - 1 + R of a study's calibration, by its own program."""
+def tell_shares(path, limits, units, image):
+    """Tells how many runs are cut by the share of ticks that level 2 misses, if the plan draws such runs, and draws that."""
+    shares = shares_of(f"{path}/study.csv") if draws_shares(f"{path}/plan.toml") else {}
+    for told in lines_of(shares, limits, units) if shares else ():
+        print(told)
+    sys.stdout.flush()  # so that notes stand below it
+    if image:
+        if not shares:
+            fail(f"{path} has no share of ticks to draw")
+        write(image, ("\n".join(picture_of(shares, limits, units)) + "\n").encode())
+
+
+def limits_of(path):
+    """The lines of `limits` by a study's calibration, and by its own program."""
     done = called(path, "limits")
     if done.returncode:
         fail(f"egasim limits: {done.stderr.decode(errors='replace').strip() or f'status {done.returncode}'}")
     limits = dict(line.split() for line in done.stdout.decode().splitlines())
-    if "stretch" not in limits:
+    if "missed" not in limits:
         fail(f"the program of {path} is of an older version; write the study anew")
-    return int(limits["reaction"]), int(limits["stretch"])
+    return limits
 
 
 def write_joined(path, numbers):

@@ -25,7 +25,8 @@ FAULTS = {
     "lapse": {"after": [0]},
 }
 MOST_NUMBER, MOST_ONSET, MOST_DRAWN, MOST_LENGTH = 65535, 19999, 1000000, 64
-PARAMETERS = sorted({"every", *(key for keys in FAULTS.values() for key in keys)})
+SHARE, SHARED = "share", ("onset", "after", "every")  # of 1000 ticks, so many are missed; and the keys that are drawn by it
+PARAMETERS = sorted({"every", SHARE, *(key for keys in FAULTS.values() for key in keys)})
 
 
 def checked_plan(name):
@@ -54,14 +55,26 @@ def faults_of(name, number, fault):
         if kind not in ("none", *FAULTS):
             fail(f"{name}: fault {number}: no class {kind}; the classes are {', '.join(['none', *FAULTS])}")
         keys = {"class", "draw"} if kind == "none" else {"class", "draw", "onset", *FAULTS[kind]}
-        keys |= {"every"} if kind == "lapse" else set()
+        keys |= {"every", SHARE} if kind == "lapse" else set()
         if set(fault) - keys:
             fail(f"{name}: fault {number}: {kind} has no key {sorted(set(fault) - keys)[0]}")
-        if kind != "none" and "onset" not in fault:
+        if SHARE in fault:
+            check_share(f"{name}: fault {number}", fault)
+        elif kind != "none" and "onset" not in fault:
             fail(f"{name}: fault {number} has no onset")
         if type(fault.get("draw", 1)) is not int or not 1 <= fault.get("draw", 1) <= MOST_DRAWN:
             fail(f"{name}: fault {number}: draw, for each class, must be a whole number from 1 to {MOST_DRAWN}")
-        yield {"class": kind, **FAULTS.get(kind, {}), **{key: fault[key] for key in fault if key != "class"}}
+        own = {} if SHARE in fault else FAULTS.get(kind, {})
+        yield {"class": kind, **own, **{key: fault[key] for key in fault if key != "class"}}
+
+
+def check_share(place, fault):
+    """Refuses a fault with a share of ticks from which no runs are drawn."""
+    if set(fault) & set(SHARED) or "draw" not in fault:
+        fail(f"{place}: a share of ticks is drawn: it needs draw, and has no {', '.join(SHARED)}")
+    values = choices("lapse", SHARE, fault[SHARE], None)
+    if not all(type(value) is int and 1 <= value <= 1000 for value in values):
+        fail(f"{place}: a share is a whole number from 1 to 1000, so many of 1000 ticks")
 
 
 def numbers_of(value, last):
@@ -111,6 +124,20 @@ def drawn_runs(draws, allowed, count):
         yield [drawn(draws, *one) for one in allowed]
 
 
+def missed_runs(draws, shares, count, ticks):
+    """The values of SHARED and SHARE of so many runs of each share, on a drive of so many ticks."""
+    for share in shares:
+        span = min(ticks, MOST_LENGTH * 1000 // share)  # a lapse names no more ticks; on a longer drive they come again
+        missed = (span * share + 500) // 1000
+        if not missed:
+            fail(f"lapse: share {share}: so many of 1000 ticks are less than one of {ticks}")
+        for _ in range(count):
+            after = set()
+            while len(after) < missed:
+                after.add(int(draws.random() * span))
+            yield 0, sorted(after), 0 if span == ticks else span, share
+
+
 def faults_on(plan, draws, ticks):
     """Each fault of the plan on a drive of so many ticks: its class, its keys, and run by run the values of these."""
     for fault in plan["fault"]:
@@ -118,6 +145,8 @@ def faults_on(plan, draws, ticks):
         spec = {key: value for key, value in fault.items() if key not in ("class", "draw")}
         if kind == "none":
             yield kind, [], [()]
+        elif SHARE in spec:
+            yield kind, [*SHARED, SHARE], missed_runs(draws, choices(kind, SHARE, spec[SHARE], None), count, ticks)
         elif count is None:
             yield kind, list(spec), itertools.product(*[choices(kind, key, value, ticks - 1) for key, value in spec.items()])
         else:

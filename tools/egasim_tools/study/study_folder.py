@@ -14,7 +14,7 @@ from egasim_tools.base.toml import toml_text
 from egasim_tools.base.tool import fail
 from egasim_tools.base.units import beside
 from egasim_tools.study.campaigns import Campaign, keys_text, run_text
-from egasim_tools.study.plan import PARAMETERS, checked_plan, groups_of
+from egasim_tools.study.plan import PARAMETERS, SHARE, checked_plan, groups_of
 
 COLUMNS = ["drive", "image", "slices", "engine", *PARAMETERS]  # of study.csv, beside those of `table`
 CALIBRATION = "inputs/calibration.toml"  # of a study that has one
@@ -178,13 +178,15 @@ def runs_of(plan, drives, images, ticks):
         for kind, keys, values in faults:
             text, row = text_form(alike, kind, keys), row_form(cells, keys)
             order = [keys.index(key) for key in PARAMETERS if key in keys]
+            told = [place for place, key in enumerate(keys) if key != SHARE]
             for one, number in zip(values, numbers):  # in this order no number is lost
-                yield text % (number, *map(toml_text, one)), row % (number, *[cell(one[key]) for key in order]), inputs, ticks[drive]
+                yield text % (number, *(toml_text(one[place]) for place in told)), row % (number, *[cell(one[key]) for key in order]), inputs, ticks[drive]
 
 
 def text_form(alike, kind, keys):
     """The text of a run under a fault, with signs for % in place of its number and of the fault's values."""
-    fault = keys_text({"faults": [{"class": kind, **dict.fromkeys(keys, "%s")}]}).replace('"%s"', "%s") if keys else ""
+    signs = dict.fromkeys((key for key in keys if key != SHARE), "%s")
+    fault = keys_text({"faults": [{"class": kind, **signs}]}).replace('"%s"', "%s") if keys else ""
     return run_text({"name": "r%07d"}) + alike.replace("%", "%%") + fault
 
 

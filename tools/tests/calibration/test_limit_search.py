@@ -27,7 +27,7 @@ def search_with(room=0, left=27, misses=1, spacing=None, said=()):
 
 def row_of(threshold, excess, reaction, hindrance="", fall=None, ramp="0"):
     limits = {"excess": str(excess), "reaction": str(reaction), "stretch": str(excess - 1 + reaction), "verdicts": "3",
-              "lapse": "none", "spacing": "80", "ramp": ramp}
+              "missed": "none", "spacing": "80", "ramp": ramp}
     return Row(threshold, fall, max(0, int(ramp) - 1), 4, 0, "town", 5, 10, 34, {}, {"period": 7}, limits, hindrance)
 
 
@@ -87,30 +87,29 @@ class Finding(unittest.TestCase):
                     self.assertEqual(9, one["limit"])
 
     def test_hindrance(self):
-        search, times = search_with(left=30, spacing=50), {"period": 7}
+        search = search_with(left=30, spacing=50)
         for limits, words in (
-                (("31", "5", "none", "10"), "stretch 31 is above 30"), (("30", "7", "none", "50"), ""),
-                (("30", "8", "none", "50"), "under lapses no bound is known: lapse none"), (("30", "8", "31", "50"), ""),
-                (("30", "8", "32", "50"), "under lapses 31 is above 30"), (("30", "7", "9", "51"), "spacing 51 is above 50"),
-                (("30", "7", "9", "none"), "spacing none is above 50")):
-            told = dict(zip(("stretch", "excess", "lapse", "spacing"), limits))
-            self.assertEqual(words, search.hindrance_of(Row(0), told, times)[0])
+                (("31", "31", "10"), "stretch 31 is above 30"), (("30", "30", "50"), ""), (("29", "31", "50"), "under lapses 31 is above 30"),
+                (("30", "30", "51"), "spacing 51 is above 50"), (("30", "30", "none"), "spacing none is above 50")):
+            told = dict(zip(("stretch", "missed", "spacing"), limits))
+            self.assertEqual(words, search.hindrance_of(Row(0), told)[0])
             without = search_with(left=30, spacing=50, said=["--without-lapses"])
-            self.assertEqual("" if "lapses" in words else words, without.hindrance_of(Row(0), told, times)[0])
+            self.assertEqual("" if "lapses" in words else words, without.hindrance_of(Row(0), told)[0])
 
     def test_hindrance_of_a_ramp(self):
-        """With a ramp its ticks count, and a word is needed by which there are no lapses."""
-        told, no_bound = {"stretch": "30", "excess": "5", "lapse": "none", "spacing": "10"}, "under lapses no bound holds with a ramp (--without-lapses)"
+        """With a ramp its ticks count, and a word is needed by which there are no lapses, unless N is 1."""
+        told, no_bound = {"stretch": "30", "missed": "none", "spacing": "10"}, "under lapses no bound holds with a ramp (--without-lapses)"
         for said, left, held, words in (((), 37, 8, "with the ramp 38 is above 37"), ((), 38, 8, no_bound), (("--without-lapses",), 38, 8, ""),
                                         (("--without-lapses",), 37, 8, "with the ramp 38 is above 37"), ((), 30, 0, no_bound),
                                         (("--without-lapses",), 29, 0, "stretch 30 is above 29")):
-            self.assertEqual(words, search_with(left=left, said=said).hindrance_of(Row(0, 50, held), told, {"period": 7})[0])
+            self.assertEqual(words, search_with(left=left, said=said).hindrance_of(Row(0, 50, held), told)[0])
+        self.assertEqual("", search_with(left=38).hindrance_of(Row(0, 50, 8), told | {"missed": "30"})[0])
 
     def test_a_drive_that_ends_within_an_excess_hinders(self):
-        told = {"stretch": "30", "excess": "5", "lapse": "none", "spacing": "10"}
+        told = {"stretch": "30", "missed": "30", "spacing": "10"}
         row = Row(0, within="a ends within an excess, at 7")
-        self.assertEqual(row.within, search_with(left=99).hindrance_of(row, told, {"period": 7})[0])
-        self.assertEqual("", search_with(left=99).hindrance_of(Row(0), told, {"period": 7})[0])
+        self.assertEqual(row.within, search_with(left=99).hindrance_of(row, told)[0])
+        self.assertEqual("", search_with(left=99).hindrance_of(Row(0), told)[0])
 
     def test_recordings_that_begin_on_a_ramp(self):
         """A recording may begin on a ramp if it binds at a tick at which that could go on."""

@@ -8,7 +8,7 @@ from egasim_tools.evidence.detection import HEADS, first_of, matrix, spans_of, s
 COVERAGE = [{"class": kind, "finds": finds, "within": within, "hidden": hidden} for kind, finds, within, hidden in (
     ("halt", "answers", "34", "0"), ("flip", "mirror", "1", "0"), ("timing", "answers", "34", "0"), ("timing", "-", "-", "1"),
     ("script", "pedal", "5", "0"), ("script", "load", "5", "0"), ("bus", "-", "-", "1"), ("path1-closed", "-", "-", "1"),
-    ("path1-closed", "start", "31", "0"))]
+    ("path1-closed", "start", "31", "0"), ("lapse", "answers", "34", "0"))]
 ONE = [(0, 100, False)]
 
 
@@ -59,6 +59,7 @@ class Taken(unittest.TestCase):
                           for onset in (50, 51, 81)], [32, None, None])
         self.assertIsNone(ticks_of(row_of("path1-closed", 0), ONE))
         self.assertIsNone(ticks_of(row_of("bus", 0), ONE))
+        self.assertIsNone(ticks_of(row_of("lapse", 0), ONE))  # it may have missed its first tick at the end
         spans = list(spans_of([50], 200, 30))  # found, but not in the span before
         self.assertEqual([ticks_of(row_of("halt", onset, "answers", 110), spans) for onset in (16, 17)], [35, 30])
 

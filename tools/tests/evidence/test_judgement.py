@@ -230,7 +230,7 @@ class Judging(InFolder):
 
 
 PRINTED = {"limits": "reaction 34\nlapse none\nverdicts 3\nexcess 5\ntest 30\nspacing 80\nstretch 38\npeak 2300\n"
-           "ramp none\n",
+           "ramp none\nmissed 38\n",
            "replay": REPLAY.replace("torque at 30", "torque none").replace("trip at 30", "trip never").replace("plate at 40", "plate none"),
            "signals": "excess\n" + "1\n" * 5 + "0\n" * 1995,
            "record": "tick,torque,limit,path1,path2,on,found\n" + "".join(f"{tick},300,0,1,1,1,-\n" for tick in range(99)) + "99,200,0,1,1,1,-\n"}
@@ -258,10 +258,10 @@ class Files(InFolder):
         return [(one.subject, one.name, one.is_so) for one in told]
 
     def test_limits(self):
-        told = self.judged("[limits]\nreaction = 34\nlapse = 99\nspacing = { least = 80, most = 79 }\npeak = 2299\nramp = 9999")
+        told = self.judged("[limits]\nreaction = 34\nlapse = 99\nspacing = { least = 80, most = 79 }\npeak = 2299\nramp = 9999\nmissed = 37")
         self.assertEqual(told, [("limits", "reaction = 34", True), ("limits", "lapse = 99", False), ("limits", "spacing.least = 80", True),
                                 ("limits", "spacing.most = 79", False), ("limits", "peak = 2299", False),
-                                ("limits", "ramp = 9999", False)])
+                                ("limits", "ramp = 9999", False), ("limits", "missed = 37", False)])
         self.assertEqual(self.calls, [("limits", "--cal", "cal.toml")])
 
     def test_runs_are_named_by_patterns_in_the_order_of_the_campaign(self):

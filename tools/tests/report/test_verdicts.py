@@ -6,10 +6,11 @@ from types import SimpleNamespace
 from egasim_tools.base.units import Units
 from egasim_tools.evidence.conclusive_runs import Shown, recording_shown
 from egasim_tools.report.verdicts import (FAILS, FITS, OPEN, beyond_point, cut_by, cut_point, evidence_point, held_of,
-    is_on_first_ramp, lapse_point, lapse_stretch, listed_point, misses_point, named, pairs_point, peak_point, points,
-    questions_point, room_point, sentence, time_point, verdict)
+    is_on_first_ramp, lapse_point, listed_point, misses_point, named, pairs_point, peak_point, points, questions_point,
+    room_point, sentence, time_point, verdict)
 
-LIMITS = {"reaction": "34", "lapse": "50", "verdicts": "3", "excess": "5", "spacing": "80", "stretch": "38", "peak": "2300", "ramp": "0"}
+LIMITS = {"reaction": "34", "lapse": "50", "verdicts": "3", "excess": "5", "spacing": "80", "stretch": "38", "peak": "2300", "ramp": "0",
+          "missed": "38"}
 PAIRS = {"pedal": 50, "plate": 50, "load": 50, "speed": 50, "up": 2, "down": 1, "limit": 10}
 WEIGHTS = {"pedal": 10, "plate": 10, "load": 10, "speed": 10, "torque": 5, "answers": 9}
 
@@ -32,7 +33,7 @@ def drive_of(row, weights=(), ticks=100, **others):
 
 def played_of(**parts):
     rows = [row_of("sound", "none"), shown_by("halt-0", "halt")]
-    return SimpleNamespace(**{"units": Units(), "limits": LIMITS, "period": 10, "has_ramp": False, "rows": rows, "taken": {}, "sweeps": [], "sound": ["sound"],
+    return SimpleNamespace(**{"units": Units(), "limits": LIMITS, "has_ramp": False, "rows": rows, "taken": {}, "sweeps": [], "sound": ["sound"],
                               "drives": drive_of(rows[0], {"torque": 4}), "blind": [], "resets": lambda name: [], "pairs": PAIRS,
                               "groups": lambda: [[row["run"] for row in parts.get("rows", rows)]], **parts})
 
@@ -58,16 +59,14 @@ class Verdicts(unittest.TestCase):
             self.assertEqual(time_point("Here", 38, asked_of(tolerant, falls))[0], state, (tolerant, falls))
         self.assertEqual(time_point("Here", 38, asked_of())[1], "Here an excess lasts 38 ticks in a row at the most, and 38 are tolerated: "
                          "40 less 1, since it may begin between two ticks, and less 1 for the torque to fall after the cut.")
-        self.assertEqual(time_point("Here", None, asked_of(None))[0], FAILS)
 
     def test_the_bound_for_lapses(self):
-        self.assertEqual(lapse_stretch(played_of()), 38)
-        self.assertEqual(lapse_stretch(played_of(limits=limits_of(excess="10"))), 38)
-        slow = limits_of(excess="11", lapse="120")
-        self.assertEqual(lapse_stretch(played_of(limits=slow)), 119)
-        self.assertEqual(lapse_stretch(played_of(limits={**slow, "lapse": "none"})), None)
-        for limits in (LIMITS, slow, limits_of(lapse="none")):
-            self.assertEqual(lapse_stretch(played_of(limits=limits, has_ramp=True)), None)
+        """It is `missed`, whatever `lapse` says; with the ticks of a ramp, if N is 1."""
+        for limits, has_ramp, tolerant, state in ((limits_of(lapse="none"), False, 39, FITS), (LIMITS, False, 38, FAILS),
+                                                  (limits_of(missed="47"), False, 47, FAILS), (limits_of(missed="47"), False, 48, FITS),
+                                                  (limits_of(ramp="48"), True, 86, FITS), (limits_of(ramp="48"), True, 85, FAILS),
+                                                  (limits_of(ramp="none"), True, 39, FITS), (limits_of(missed="none"), True, 999, FAILS)):
+            self.assertEqual(lapse_point(played_of(limits=limits, has_ramp=has_ramp), asked_of(tolerant, 0))[0], state, (limits, tolerant))
 
     def test_the_ramp_counts_from_the_fall_of_the_demand(self):
         self.assertEqual([held_of({"ramp": ramp}) for ramp in ("0", "1", "48", "none")], [0, 0, 47, None])
@@ -85,7 +84,7 @@ class Verdicts(unittest.TestCase):
 
     def test_a_word_says_that_there_are_no_lapses(self):
         for has_ramp in (False, True):
-            played = played_of(has_ramp=has_ramp)
+            played = played_of(has_ramp=has_ramp, limits=limits_of(missed="none" if has_ramp else "38"))
             self.assertEqual([lapse_point(played, asked_of(said=said))[0] for said in ((), ("--without-lapses",))], [FAILS if has_ramp else FITS, FITS])
             self.assertIn("as was said (--without-lapses)", lapse_point(played, asked_of(said=["--without-lapses"]))[1])
 
@@ -93,10 +92,9 @@ class Verdicts(unittest.TestCase):
         self.assertEqual([is_on_first_ramp(7, {"ramp": ramp}) for ramp in ("0", "7", "8", "none")], [False, False, True, True])
 
     def test_why_there_is_no_bound_for_lapses(self):
-        for has_ramp, reason in ((False, "no bound is known for how long an excess lasts: right verdicts may take back"),
-                                 (True, "no bound holds for how long an excess lasts, but for those of claim 93: with a ramp (permit.fall)")):
-            told = [words for _, words in points(played_of(limits=limits_of(excess="11", lapse="none"), has_ramp=has_ramp), asked_of())]
-            self.assertEqual([words.startswith(f"Under lapses, which aren't listed, {reason}") for words in told].count(True), 1)
+        reason = "no bound holds for how long an excess lasts, but for those of claim 93: with a ramp (permit.fall)"
+        told = [words for _, words in points(played_of(limits=limits_of(missed="none"), has_ramp=True), asked_of())]
+        self.assertEqual([words.startswith(f"Under lapses, which aren't listed, {reason}") for words in told].count(True), 1)
 
     def test_sound_drives_are_those_that_are_declared(self):
         self.assertEqual(cut_point(played_of())[0], FITS)
@@ -182,7 +180,7 @@ class Verdicts(unittest.TestCase):
         self.assertEqual(cut_by({"cut": "torque", "cut_at": "9"}, units), "by torque at 9 (90 ms)")
 
     def test_missed_ticks(self):
-        for wrong, spacing, state, words in (("3", "80", FITS, "80 or more apart"), ("1", "none", FAILS, "One wrong answer cuts"),
+        for wrong, spacing, state, words in (("3", "80", FITS, "80 or more apart"), ("1", "none", FAILS, "each missed tick"),
                                              ("2", "none", FAILS, "N = 2"), ("4", "none", FAILS, "however far apart")):
             point = misses_point(played_of(limits=limits_of(verdicts=wrong, spacing=spacing)))
             self.assertEqual(point[0], state)

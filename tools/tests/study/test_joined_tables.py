@@ -10,7 +10,7 @@ from unittest import mock
 from egasim_tools.base.files import read, sum_of
 from egasim_tools.base.units import Units
 from egasim_tools.study import joined_tables as joining
-from egasim_tools.study.joined_tables import (Summary, bounds_of, fault_of_table, join, print_summary, refuse_changes, rows_of,
+from egasim_tools.study.joined_tables import (Summary, limits_of, fault_of_table, join, print_summary, refuse_changes, rows_of,
     write_joined)
 from in_folder import InFolder
 from notes import note_of
@@ -22,7 +22,7 @@ PLAYED = {"00001": f"{HEAD}\nr1,none,,,torque,9,5,1,1,34\nr2,halt,3,1,,9,30,20,1
 STAMP = "0a  egasim\n0b  campaigns/{0}.toml\n"
 
 
-def limits(status=0, out=b"reaction 34\nstretch 38\n", err=b""):
+def limits(status=0, out=b"reaction 34\nstretch 38\nspacing 71\nmissed 38\n", err=b""):
     return mock.patch.object(joining, "called", lambda path, command: subprocess.CompletedProcess([], status, out, err))
 
 
@@ -36,8 +36,8 @@ def said_by(call, *words):
 class Joining(InFolder):
     def setUp(self):
         super().setUp()
-        self.put("s/plan.toml", "plan")
-        self.put("s/MANIFEST", f"{sum_of(b'plan')}  plan.toml\n")
+        self.put("s/plan.toml", "fault = []\n")
+        self.put("s/MANIFEST", f"{sum_of(read('s/plan.toml'))}  plan.toml\n")
         for number in PLANNED:
             self.put(f"s/campaigns/{number}.toml")
             self.put(f"s/campaigns/{number}.sum", STAMP.format(number))
@@ -145,10 +145,10 @@ r3,a.csv,i.hex,halt,90,0,,,0,,,34
         self.assertEqual(note_of(refuse_changes, "gone"), "cannot read gone/MANIFEST: No such file or directory")
 
     def test_program_that_has_no_limits_is_told(self):
-        self.assertEqual(bounds_of("s"), (34, 38))
+        self.assertEqual(limits_of("s"), {"reaction": "34", "stretch": "38", "spacing": "71", "missed": "38"})
         for words, note in (((4, b"", b"my.toml: answer 2\n"), "egasim limits: my.toml: answer 2"),
                             ((139, b""), "egasim limits: status 139"),
-                            ((0, b"reaction 34\n"), "the program of s is of an older version; write the study anew")):
+                            ((0, b"reaction 34\nstretch 38\n"), "the program of s is of an older version; write the study anew")):
             with limits(*words):
                 self.assertEqual(note_of(join, "s"), note)
 

@@ -4,7 +4,7 @@ import random
 import unittest
 
 from egasim_tools.study.plan import (FAULTS, PARAMETERS, checked_plan, choices, drawn, drawn_from, drawn_runs, faults_of,
-    faults_on, groups_of, numbers_of, onsets_of)
+    faults_on, groups_of, missed_runs, numbers_of, onsets_of)
 from in_folder import InFolder
 from notes import note_of
 
@@ -75,9 +75,30 @@ class Faults(unittest.TestCase):
         self.assertEqual([(kind, keys, list(values)) for kind, keys, values in faults_on(plan, Counted(*[0.5] * 8), 10)],
                          [("halt", ["onset"], [[2]] * 4), ("path1-closed", ["onset"], [[2]] * 4)])
 
+    def test_share_of_missed_ticks_is_drawn(self):
+        for fault in ({"share": 5}, {"share": 5, "draw": 2, "onset": 0}, {"share": 5, "draw": 2, "after": [0]}, {"share": 5, "draw": 2, "every": 9}):
+            self.assertEqual(note_of_fault(**{"class": "lapse", **fault}),
+                             "p: fault 1: a share of ticks is drawn: it needs draw, and has no onset, after, every")
+        for share in (0, 1001, True, 1.0, "5", [5, 0], {"to": 2}):
+            self.assertEqual(note_of_fault(**{"class": "lapse", "share": share, "draw": 2}),
+                             "p: fault 1: a share is a whole number from 1 to 1000, so many of 1000 ticks")
+        self.assertEqual(note_of_fault(**{"class": "halt", "onset": 0, "share": 5, "draw": 2}), "p: fault 1: halt has no key share")
+        plan = {"fault": list(faults_of("p", 1, {"class": "lapse", "share": [100, 200], "draw": 1}))}
+        self.assertEqual([(kind, keys, list(values)) for kind, keys, values in faults_on(plan, Counted(0.5, 0.0, 0.0, 0.99), 10)],
+                         [("lapse", ["onset", "after", "every", "share"], [(0, [5], 0, 100), (0, [0, 9], 0, 200)])])
+
+    def test_share_of_a_longer_drive_comes_again(self):
+        """A lapse names 64 ticks at most, each once, in as many ticks as have that share."""
+        for share, ticks, span in ((1000, 64, 64), (1000, 65, 64), (500, 200, 128), (10, 6400, 6400), (10, 6401, 6400), (3, 20000, 20000)):
+            for onset, after, every, told in missed_runs(random.Random(1), [share], 3, ticks):
+                self.assertEqual((onset, every, told, len(after)), (0, 0 if span == ticks else span, share, (span * share + 500) // 1000))
+                self.assertTrue(after == sorted(set(after)) and 0 <= after[0] and after[-1] < span)
+        self.assertEqual(note_of(list, missed_runs(random.Random(1), [4], 1, 124)),
+                         "lapse: share 4: so many of 1000 ticks are less than one of 124")
+
     def test_parameters_are_those_of_all_classes(self):
         self.assertEqual(PARAMETERS, ["add", "after", "at", "every", "mask", "module", "offset", "opens", "path", "questions",
-                                      "track", "values", "word"])
+                                      "share", "track", "values", "word"])
         self.assertEqual(len(FAULTS), 14)
 
 
