@@ -103,15 +103,10 @@ def leave_output():
         os.dup2(os.open(os.devnull, os.O_WRONLY), sys.stdout.fileno())
 
 
-def as_called(text):
-    """A help, with the names that the tools and the program have where they are installed."""
-    return text.replace("tools/", "egasim-").replace("./egasim", "egasim") if TOOL.startswith("egasim-") else text
-
-
 def words_or_help(text):
-    """The words of the call; with --help, or without any, what the tool is for."""
+    """The words of a call of a script of dist/; with --help, or without any, what it is for."""
     words = sys.argv[1:]
     if words and words[0] not in ("-h", "--help"):
         return words
-    print(as_called(text), file=sys.stdout if words else sys.stderr)
+    print(text, file=sys.stdout if words else sys.stderr)
     sys.exit(0 if words else 2)

@@ -37,11 +37,11 @@ def time_of(said):
     return int(time) if match and time.denominator == 1 else None
 
 
-def tick_of(name, said):
+def tick_of(name, said, refuse=fail):
     """The nanoseconds of a tick; `name` says where its length stands."""
     time = time_of(said)
     if time is None or not 0 < time <= MOST_TICK:
-        fail(f"{name} {said} is no length of a tick, such as 10ms, 2.5ms or 0.02s, of 10 s at the most")
+        refuse(f"{name} {said} is no length of a tick, such as 10ms, 2.5ms or 0.02s, of 10 s at the most")
     return time
 
 

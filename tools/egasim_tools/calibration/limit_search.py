@@ -9,8 +9,6 @@ import csv
 import io
 import itertools
 import os
-import re
-import subprocess
 import sys
 from concurrent.futures import ThreadPoolExecutor
 from dataclasses import dataclass, field

@@ -2,6 +2,7 @@
 
 from html import escape
 
+from egasim_tools.base.command_line import Word
 from egasim_tools.base.units import Units
 from egasim_tools.evidence.conclusive_runs import cut_by
 from egasim_tools.evidence.run_results import SWITCHES_OFF, lacking
@@ -12,6 +13,12 @@ SHOWING_CLASSES = 13 - len(SWITCHES_OFF)  # listed classes under which a run may
 RANGES = {"pedal": 1000, "plate": 1000, "load": 1000, "speed": 8000}  # of what a drive may have
 WITHOUT_LAPSES, WITHOUT_HELD = "--without-lapses", "--without-held-torque"  # words of find and report
 SAID = {WITHOUT_LAPSES: "level 2 never misses a tick", WITHOUT_HELD: "no torque is held when the demand falls"}
+SAYS = tuple(Word(word, f"you show that {told}; the result says so") for word, told in SAID.items())
+
+
+def said_in(values):
+    """Which of these words a call has."""
+    return [word for word in SAID if getattr(values, word.lstrip("-").replace("-", "_"))]
 
 
 def verdict(played, asked):

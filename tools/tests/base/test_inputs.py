@@ -1,26 +1,16 @@
 """Files that change between a tool's calls of the program: report, judge and find end, and say which."""
 
 import contextlib
-import importlib.machinery
-import importlib.util
 import os
-import sys
 from unittest import mock
 
 from in_folder import InFolder
-from egasim_tools.base.files import TOOLS
 from egasim_tools.base.inputs import Inputs
+from egasim_tools.calibration import find_tool
+from egasim_tools.evidence import judge_tool
 from notes import note_of
 
 READ = ("c.toml", "d.csv", "i.hex", "m.csv", "own.toml", "units.toml")
-
-
-def tool_of(name):
-    """A tool as a module."""
-    loader = importlib.machinery.SourceFileLoader(name, os.path.join(TOOLS, name))
-    module = importlib.util.module_from_spec(importlib.util.spec_from_loader(name, loader))
-    loader.exec_module(module)
-    return module
 
 
 class InputsThatChange(InFolder):
@@ -47,7 +37,7 @@ class InputsThatChange(InFolder):
         os.unlink("d.csv")
         self.assertEqual(note_of(inputs.refuse_changes), "cannot read d.csv: No such file or directory")
 
-    def ends(self, tool, words, called, name):
+    def ends(self, tool, declared, words, called, name):
         """With which note a tool ends if a file changes while it calls the program."""
         def changed(*_):
             if name:
@@ -55,19 +45,16 @@ class InputsThatChange(InFolder):
             return []
 
         with contextlib.ExitStack() as stack:
-            stack.enter_context(mock.patch.object(sys, "argv", ["tool", *words]))
             stack.enter_context(mock.patch.object(tool, "program", lambda: "program"))
             stack.enter_context(mock.patch.object(tool, called, changed if called == "verdicts" else lambda *_: mock.Mock(rows=changed)))
-            return note_of(tool.main)
+            return note_of(declared.call, words)
 
     def test_judge(self):
-        tool = tool_of("judge")
         for name in (*READ, "e.toml", "program"):
-            self.assertEqual(self.ends(tool, ["e.toml"], "verdicts", name), f"{name} changed meanwhile")
+            self.assertEqual(self.ends(judge_tool, judge_tool.JUDGE, ["e.toml"], "verdicts", name), f"{name} changed meanwhile")
 
     def test_find(self):
-        tool = tool_of("find")
         for name in (*READ, "program"):
             words = ["c.toml", "--cal", "own.toml", "--tolerant", "30", "--tick", "10ms", "--recording", "m.csv"]
-            with mock.patch.object(tool, "units_of", lambda *_: tool.SimpleNamespace(ticks=str)):
-                self.assertEqual(self.ends(tool, words, "Search", name), f"{name} changed meanwhile")
+            with mock.patch.object(find_tool, "units_of", lambda *_: find_tool.SimpleNamespace(ticks=str)):
+                self.assertEqual(self.ends(find_tool, find_tool.FIND, words, "Search", name), f"{name} changed meanwhile")

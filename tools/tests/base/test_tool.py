@@ -11,9 +11,8 @@ import sys
 import unittest
 from unittest import mock
 
-from egasim_tools.base import tool
 from egasim_tools.base.files import TOOLS
-from egasim_tools.base.tool import as_called, as_noted, fail, guarded, words_or_help
+from egasim_tools.base.tool import as_noted, fail, guarded, words_or_help
 from in_folder import InFolder
 from notes import note_of
 
@@ -55,12 +54,6 @@ class Tool(unittest.TestCase):
     def test_closed_output_is_told(self):
         with mock.patch.object(sys, "stdout", None):
             self.assertEqual(note_of(guarded, lambda: None), "standard output is closed")
-
-    def test_installed_tools_have_other_names(self):
-        text = "tools/study and ./egasim"
-        self.assertEqual(as_called(text), text)
-        with mock.patch.object(tool, "TOOL", "egasim-study"):
-            self.assertEqual(as_called(text), "egasim-study and egasim")
 
     def test_words_are_those_of_the_call_or_else_help_is_printed(self):
         with mock.patch.object(sys, "argv", ["study", "a", "--help"]):

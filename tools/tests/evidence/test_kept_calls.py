@@ -171,7 +171,7 @@ class Keeping(InFolder):
             return kept and kept.sealed([recording])
 
     def test_words_that_are_none(self):
-        note = "FOLDER -- egasim COMMAND .. is wanted, or --again FOLDER; --help tells more\n"
+        note = "FOLDER -- egasim COMMAND .. is wanted, or --again FOLDER; --help tells the words\n"
         for words in (["k"], ["k", "egasim", "run"], ["k", "--", "run"], ["k", "--", "egasim"], ["--again"], ["--again", ""], ["", "--", "egasim", "run"]):
             self.assertEqual(self.keep(*words), (2, "", note))
 

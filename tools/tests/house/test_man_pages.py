@@ -1,24 +1,18 @@
-"""The manual pages: what a tool's --help and docs/FORMATS.md become."""
+"""The manual pages: what a tool's declaration and docs/FORMATS.md become."""
 
 import os
 import sys
 import unittest
 
+from egasim_tools.base.command_line import NAME, Form, Tool, Word, whole
 from egasim_tools.base.files import TOP
 
 sys.path.append(os.path.join(TOP, "dist"))
 from man_pages import page, tool_page  # noqa: E402
 
-HELP = """Mends a file, e.g. one. It doesn't
-break others.
-
-    egasim mend FILE
-    egasim mend --all
-
-A `FILE` is 'any'.
-
-    --all    all of them \\ none
-"""
+MEND = Tool("mend", "mends a file, e.g. one", (
+    Form("mends it all", None, (Word("FILE", "what is \\ broken", NAME, is_needed=True),
+                               Word("--most", "a limit", whole(1, 9, "ms"), "NUMBER"))),), "It doesn't break others.")
 FORMATS = """# Formats
 
 Some *text* of `run`.
@@ -38,11 +32,12 @@ Some *text* of `run`.
 
 class ManPages(unittest.TestCase):
     def test_page_of_a_tool(self):
-        self.assertEqual(list(tool_page("mend", HELP, "9.9")), [
+        self.assertEqual(list(tool_page(MEND, "9.9")), [
             '.TH EGASIM-MEND 1 "" "egasim 9.9" "User commands"', ".SH NAME", r"egasim\-mend \- mends a file, e.g. one", ".SH SYNOPSIS",
-            ".PP", ".RS 4", ".nf", r"\&egasim mend FILE", r"\&egasim mend \-\-all", ".fi", ".RE", ".SH DESCRIPTION",
-            "It doesn't break others.", ".PP", r"\&A \(gaFILE\(ga is 'any'.",
-            ".PP", ".RS 4", ".nf", r"\&\-\-all    all of them \e none", ".fi", ".RE", ".SH SEE ALSO", r"\fBegasim\fR(1)"])
+            ".TP", r"\&\fBegasim mend [OPTIONS] FILE\fR", "mends it all", ".SH WORDS", ".TP", r"\&\fBFILE\fR", r"\&what is \e broken",
+            ".TP", r"\&\fB\-\-most NUMBER\fR", r"\&a limit; 1 to 9 ms", ".SH NOTES",
+            r"\&It doesn't break others. A refused word has the status 2. More: docs/TOOLS.md.", ".SH SEE ALSO", r"\fBegasim\fR(1)",
+            ".PP", "The folder lib/egasim/docs/ of the installation has the documents that are named here."])
 
     def test_page_of_the_program(self):
         told = "\n".join(page(FORMATS, "9.9", "program 12, kit K", False, ["find", "mend"]))
