@@ -24,7 +24,7 @@ from egasim_tools.evidence.run_results import excess_of
 
 MOST_SWEEPS = 20
 DOCUMENTS = ("SAFETY.md", "PROVED.md", "FORMATS.md")  # of which parts stand in a page
-MOST_SWEPT_RUNS, MOST_SWEPT_TICKS, CLASSES = 1000, 1000000, 14  # of a grid: docs/CONCEPT.md, "`sweep`"
+MOST_SWEPT_RUNS, MOST_SWEPT_TICKS = 1000, 1000000  # of a grid: docs/CONCEPT.md, "`sweep`"
 SWEPT = re.compile(r"([a-z0-9-]+): runs (\d+); (.*); reaction (\d+|none)")
 
 
@@ -160,8 +160,8 @@ class Played(Inputs):
         return groups.values()
 
     def sweep(self, runs):
-        ticks = len(self.records[runs[0]]["on"])
-        onsets = min(MOST_SWEPT_RUNS // CLASSES, MOST_SWEPT_TICKS // (CLASSES * ticks))
+        ticks, classes = len(self.records[runs[0]]["on"]), len({row["class"] for row in self.coverage})
+        onsets = min(MOST_SWEPT_RUNS // classes, MOST_SWEPT_TICKS // (classes * ticks))
         step = -(-ticks // onsets)
         return Swept(runs, step, self.call("sweep", self.campaign, runs[0], str(step)).splitlines())
 

@@ -8,12 +8,30 @@ from egasim_tools.base.documents import section_of
 from egasim_tools.base.units import Units
 from egasim_tools.evidence.detection import Taken
 from egasim_tools.report.program_results import document
-from egasim_tools.report.sections import about, claims, coverage, greatest, pair, summary, sweeps, swept_most, warnings
+from egasim_tools.report.sections import (about, claims, coverage, drawn_runs, greatest, not_drawn, pair, summary, sweeps,
+    swept_most, warnings)
 
 
 def played_of(**parts):
     return SimpleNamespace(**{"units": Units(), "campaign": "c.toml", "calibration": None, "date": "2026-01-02 03:04 UTC", "version": ["egasim 9", "x"],
                               "rows": [], "taken": {}, "sweeps": [], "not_asked": [], "left": 0, "limits": {"reaction": "34"}, **parts})
+
+
+class Drawn(unittest.TestCase):
+    def test_named_cut_and_nearest_runs_are_drawn_and_the_others_are_told(self):
+        names = [f"r{number}" for number in range(200)]
+        cut = set(names[100:130])
+        rows = [{"run": name, "cut": "torque" if name in cut else "", "off_at": "", "first": "-"} for name in names]
+        margins = [{"run": name, "torque": str(number % 97)} for number, name in enumerate(names)]
+        played = SimpleNamespace(rows=rows, margins=margins, weights={"torque": 97}, sound=["r1"], calibration="own.toml", campaign="c.toml")
+        drawn = drawn_runs(played)
+        self.assertTrue({"r1", *cut} <= set(drawn))
+        self.assertEqual((len(drawn), [name for name in drawn if name not in {"r1", *cut}]),
+                         (41, [f"r{number}" for number in range(200) if number % 97 >= 92 and f"r{number}" not in cut]))
+        told = "\n".join(not_drawn(played, set(drawn)))
+        self.assertEqual(told.count("egasim draw --cal own.toml"), 159)
+        played.sound = names
+        self.assertEqual(len(drawn_runs(played)), 50)
 
 
 class Telling(unittest.TestCase):
