@@ -4,7 +4,7 @@ work=$(mktemp -d) && trap 'rm -rf "$work"' EXIT && ln -s "$PWD/egasim" "$PWD/exa
 mkdir own && cp examples/calibration/strict.toml own && echo 'tick = "10ms"' >own/units.toml
 said() { sed '/aria-label="The columns"/,/<\/table>/d; /<section id="sweeps">/,$d' | sed -n "$1"; }
 ./egasim report examples/first_run/sweep.toml --cal own/strict.toml --tolerant 20 --falls 0 >page.html
-said '/<li>Tick/p; /an excess lasts/p; /an excess, by/p; /^<li>Greatest/p; /^<li>Longest/p; /id="limits"/,/<\/section>/s/<\/td><td>.*//p' <page.html
+said '/<li>Tick/p; /an excess lasts [0-9]/p; /an excess, by/p; /^<li>Greatest/p; /^<li>Longest/p; /id="limits"/,/<\/section>/s/<\/td><td>.*//p' <page.html
 said '/<section id="table">/,/id="margins"/{/<th scope="row">/p}; /<section id="margins">/,${/<th scope="row">/p}' <page.html
 sed -n '/<section id="sweeps">/,/<section id="pictures">/{/<th scope="row">\(skip\|lapse\)/p; s/.*<desc[^>]*>\(.*\)<.desc>/\1/p}' page.html
 sed -n '/<section id="pictures">/,/<section id="assumptions">/{/<th scope="row"/p; s/.*>\(tick, [^<]*\)<.*/\1/p; s/.*>\(torque, [^<]*\)<.*/\1/p}' page.html

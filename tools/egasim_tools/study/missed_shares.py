@@ -45,13 +45,17 @@ def evenly_of(limits):
 
 
 def proved_of(limits, units):
-    """What is proved of missed ticks, by two lines of `limits`."""
+    """What is proved of missed ticks by two lines of `limits`, or that nothing is."""
     evenly = evenly_of(limits)
-    yield ("no distance is known from which on missed ticks don't make wrong answers cut (spacing none)" if evenly is None else
-           f"missed ticks that lie {units.ticks(limits['spacing'])} or more apart (spacing), up to {evenly:.1f} of 1000 if evenly, never make "
-           "wrong answers cut before a watch trips")
-    yield ("no number of ticks bounds an excess under lapses (missed none)" if limits["missed"] == "none" else
-           f"whatever ticks are missed, no excess lasts more than {units.ticks(limits['missed'], 'ticks')} (missed)")
+    if evenly is None:
+        yield "nothing is proved of how far apart missed ticks have to lie so that wrong answers don't cut (spacing none)"
+    else:
+        yield (f"proved: missed ticks that lie {units.ticks(limits['spacing'])} or more apart (spacing), up to {evenly:.1f} of 1000 if "
+               "evenly, never make wrong answers cut before a watch trips")
+    if limits["missed"] == "none":
+        yield "no number of ticks is proved that an excess lasts at most, whatever ticks are missed (missed none)"
+    else:
+        yield f"proved: whatever ticks are missed, no excess lasts more than {units.ticks(limits['missed'], 'ticks')} (missed)"
 
 
 def lines_of(shares, limits, units):
@@ -61,8 +65,7 @@ def lines_of(shares, limits, units):
     widths = [max(len(str(row[place])) for row in rows) for place in range(len(rows[0]))]
     for row in rows:
         yield "  ".join(str(cell).rjust(width) for cell, width in zip(row, widths))
-    for said in proved_of(limits, units):
-        yield f"proved: {said}"
+    yield from proved_of(limits, units)
 
 
 def picture_of(shares, limits, units):
@@ -86,6 +89,7 @@ def picture_of(shares, limits, units):
     shapes += [line(points, DARK, width=2), *(box(x - 3, y - 3, 6, 6, DARK) for x, y in points)]
     longest = units.ticks(max(one.stretch for one in shares.values()))
     shapes.append(text((LEFT + WIDTH) / 2, bottom + 30, "ticks that level 2 misses, of 1000; runs that are cut, per cent", size=10))
-    shapes.append(text((LEFT + WIDTH) / 2, bottom + 44, f"longest excess of these runs: {longest}; proved (missed): {units.ticks(limits['missed'])}", size=10))
+    said = f"longest excess of these runs: {longest}; proved (missed): {units.cell('missed', limits['missed'])}"
+    shapes.append(text((LEFT + WIDTH) / 2, bottom + 44, said, size=10))
     about = "; ".join([*(f"{share} of 1000: {one.cut} of {one.runs} cut" for share, one in shares.items()), *proved_of(limits, units)])
     return picture("shares", WIDTH, bottom + 54, "How many runs are cut, by the share of ticks that level 2 misses", f"{about}.", shapes)

@@ -39,7 +39,7 @@ class Shares(InFolder):
         shares = {5: Share(4, 1, 0), 20: Share(4, 4, 7)}
         told = "".join(picture_of(shares, LIMITS, Units()))
         for words in ("spacing 71, evenly<", "longest excess of these runs: 7; proved (missed): 38<",
-                      "5 of 1000: 1 of 4 cut; 20 of 1000: 4 of 4 cut; missed ticks",
+                      "5 of 1000: 1 of 4 cut; 20 of 1000: 4 of 4 cut; proved: missed ticks",
                       '<rect x="589.8" y="21.0" width="6.0"'):  # all are cut: at the top, a twentieth from the right
             self.assertIn(words, told)
-        self.assertNotIn(", evenly<", "".join(picture_of(shares, NONE, Units())))
+        self.assertNotIn(", evenly<", "".join(picture_of(shares, NONE, Units(10**7))))
