@@ -1,8 +1,8 @@
-# Completion of egasim for bash.
+# Completion of egasim for bash. dist/install puts before it what the tools declare: _egasim_tools and _egasim_tool.
 _egasim() {
   local word=${COMP_WORDS[COMP_CWORD]} command=${COMP_WORDS[1]} place=$((COMP_CWORD - 1)) campaign names ending=toml
   local commands='run table margins record couple sweep soak check replay signals bound limits coverage answers asm dis'
-  local tools='calibration draw find fmu image judge keep measured partner plot questions report study'
+  local tools=$_egasim_tools
   COMPREPLY=()
   if [ "$place" -eq 0 ]; then
     mapfile -t COMPREPLY < <(compgen -W "$commands $tools help prove --help --version" -- "$word")
@@ -11,7 +11,7 @@ _egasim() {
     mapfile -t COMPREPLY < <(compgen -W "$commands $tools" -- "$word")
     return
   elif [[ " $tools " == *" $command "* ]]; then
-    compopt -o default 2>/dev/null
+    _egasim_tool "$command" "$word" "${COMP_WORDS[COMP_CWORD - 1]}"
     return
   fi
   # The place is counted without --cal and its file.

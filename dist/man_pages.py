@@ -1,10 +1,9 @@
-"""The manual pages of egasim, made from docs/FORMATS.md, and of its tools, made from their --help."""
+"""The manual pages of egasim, made from docs/FORMATS.md, and of its tools, made from their declarations."""
 
 import re
-from itertools import takewhile
 
-from lib.documents import ITEM, blocks_of, cells_of
-from lib.program import own_warning
+from egasim_tools.base.documents import ITEM, blocks_of, cells_of
+from egasim_tools.base.program import own_warning
 
 WIDTH = 70  # characters of a table that stands as it is
 CHARACTERS = {"\\": r"\e", "-": r"\-", "'": r"\(aq", "`": r"\(ga", "^": r"\(ha", "~": r"\(ti"}
@@ -86,14 +85,13 @@ def page(text, version, program, is_another, tools):
                 "The folder lib/egasim/docs/ of the installation has the documents that are named here."]
 
 
-def tool_page(name, text, version):
-    """The page of a tool, from what its --help prints: its forms stand behind the first lines."""
-    (_, first), *others = blocks_of(text)
-    told, *rest = re.split(r"(?<=\.) (?=[A-Z])", " ".join(first), maxsplit=1)
-    forms = list(takewhile(lambda block: block[0] == "code", others))
-    yield from [*head(f"egasim-{name}", version, told.removesuffix(".")), ".SH SYNOPSIS"]
-    yield from (line for _, lines in forms for line in code(lines))
-    yield from [".SH DESCRIPTION", *(escaped(text, False) for text in rest)]
-    for kind, lines in others[len(forms):]:
-        yield from code(lines) if kind == "code" else [".PP", r"\&" + escaped(" ".join(lines), False)]
-    yield from [".SH SEE ALSO", r"\fBegasim\fR(1)"]
+def tool_page(tool, version):
+    """The page of a tool, from its declaration."""
+    yield from [*head(f"egasim-{tool.name}", version, tool.does), ".SH SYNOPSIS"]
+    for form in tool.forms:
+        yield from [".TP", rf"\&\fB{escaped(form.usage(tool.name), True)}\fR", escaped(form.does, False)]
+    yield ".SH WORDS"
+    for word in tool.words():
+        yield from [".TP", rf"\&\fB{escaped(word.said(), True)}\fR", rf"\&{escaped(word.about(), False)}"]
+    yield from [".SH NOTES", rf"\&{escaped(tool.more(), False)}", ".SH SEE ALSO", r"\fBegasim\fR(1)",
+                ".PP", "The folder lib/egasim/docs/ of the installation has the documents that are named here."]

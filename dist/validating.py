@@ -12,9 +12,9 @@ from concurrent.futures import ThreadPoolExecutor
 from dataclasses import dataclass
 from itertools import groupby
 
-from lib.files import TOP, read, sum_of
-from lib.program import program, version_lines
-from lib.tool import as_noted, fail
+from egasim_tools.base.files import TOP, read, sum_of
+from egasim_tools.base.program import program, version_lines
+from egasim_tools.base.tool import as_noted, fail
 
 WHOLE = {"campaigns": 2000, "inputs": 20000, "images": 20000, "parts": 1}  # what a whole validation plays
 SMALL = {"campaigns": 20, "inputs": 500, "images": 200, "parts": 50}

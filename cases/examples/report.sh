@@ -11,8 +11,8 @@ is_there '<li id="A[0-9]*">' '^- \*\*A[0-9]*\. ' SAFETY.md assumption
 folded() { sed -n 's/.*Not shown here: //p' page.html | grep -oE '[0-9]+( to [0-9]+)?' | while read -r first _ last; do seq "$first" "${last:-$first}"; done; }
 { folded && grep -o '<th scope="row">[0-9]*\. ' page.html | grep -o '[0-9]*'; } | sort -n >told
 grep -o '^| [0-9]*\. ' tools/../docs/PROVED.md | grep -o '[0-9]*' | sort -n | cmp - told && echo "each claim is there, $(folded | wc -l) of them in a line"
-lib() { printf 'tools/lib/%s.py ' $(cd tools/lib && sed -n 's/^from lib\.\([a-z]*\) import.*/\1/p' ../report telling.py playing.py verdicts.py pages.py | sort -u); }
-for file in tools/../docs/SAFETY.md tools/../docs/PROVED.md tools/../docs/FORMATS.md tools/report $(lib) \
+modules() { (cd tools/egasim_tools/report && sed -n 's/^from \(egasim_tools[a-z_.]*\) import.*/tools.\1/p' ../../report sections.py program_results.py verdicts.py html_parts.py) | sort -u | sed 's|[.]|/|g; s|$|.py|'; }
+for file in tools/../docs/SAFETY.md tools/../docs/PROVED.md tools/../docs/FORMATS.md tools/report $(modules) \
   tools/report_files/page.css examples/calibration/strict.toml examples/first_run/sweep.toml examples/first_run/late.csv examples/level_1/late.hex; do
   grep -c "<code>$(sha256sum <"$file" | sed 's/ .*//')</code>" page.html
 done
@@ -91,8 +91,8 @@ sed -n '/<title>How long/,/<desc/s/<[^>]*>//gp; /<caption>Runs by/,/<\/tbody>/s/
 ./egasim study faults examples/first_run/sweep.toml late path1-closed 0 >one.toml
 printf '#!/bin/sh\n"%s/egasim" "$@" | sed "/^path1-closed-0/s/,[0-9]*,1,19,/,20,1,19,/"\n' "$PWD" >slower && chmod +x slower
 cat >by_slower.py <<'END'
-import os, runpy, lib.program
-lib.program.program = lambda: os.path.abspath("slower")
+import os, runpy, egasim_tools.base.program
+egasim_tools.base.program.program = lambda: os.path.abspath("slower")
 runpy.run_path("tools/report", run_name="__main__")
 END
 PYTHONPATH=tools python3 -B by_slower.py --cal examples/calibration/strict.toml one.toml | sed -n '/Against\|without evidence\|above its bound/s/<[^>]*>/ /gp'

@@ -7,7 +7,7 @@ import subprocess
 import tempfile
 import unittest
 
-from lib.files import TOP, read, text_of
+from egasim_tools.base.files import TOP, read, text_of
 
 EXAMPLES = os.path.join(TOP, "examples", "own_engine")
 built_by_compiler = unittest.skipUnless(shutil.which("cc"), "there is no compiler cc")

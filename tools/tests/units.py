@@ -63,7 +63,7 @@ def stuck(result, bit, value):
 
 
 def wrong_units(calibration):
-    """(what a unit gets wrong, by the name that tools/lib/covering.py gives the thing which shows it; the unit)."""
+    """(what a unit gets wrong, by the name that tools/egasim_tools/calibration/question_coverage.py gives the thing which shows it; the unit)."""
     kt = calibration["torque"]["kt"]
     for result, values in enumerate((range(1001), range(10001), [estimate_of(kt, load) for load in range(1001)])):
         for bit in range(16):

@@ -1,0 +1,1 @@
+"""Calibrations: search, questions, labels of a DCM, differences."""

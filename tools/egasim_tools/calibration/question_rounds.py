@@ -1,0 +1,57 @@
+"""How late path 2 opens if the questions come in rounds, and only some of them get wrong answers.
+
+Right verdicts take back what wrong ones added (docs/CONCEPT.md, "Debouncing"). So path 2 may open later than R, or never."""
+
+from egasim_tools.calibration.question_coverage import in_words
+
+
+def verdicts_to_confirm(round_of_verdicts, weights):
+    """How many verdicts of a round that comes again and again confirm, true for a wrong one (C10); None if they never do."""
+    up, down, limit = (weights[key] for key in ("up", "down", "limit"))
+    gain = sum(up if wrong else -down for wrong in round_of_verdicts)  # of each round in which the counter isn't held at 0
+    counter = count = 0
+    while True:
+        before, greatest = counter, 0
+        for wrong in round_of_verdicts:
+            counter = counter + up if wrong else max(0, counter - down)
+            count, greatest = count + 1, max(greatest, counter)
+            if counter >= limit:
+                return count
+        if counter == before:
+            return None
+        skipped = (limit - 1 - greatest) // gain if counter - before == gain else 0
+        counter, count = counter + skipped * gain, count + skipped * len(round_of_verdicts)
+
+
+def ticks_to_open(numbers, count, times):
+    """The most ticks from a tick on until path 2 is open, if from this tick on just the questions of these numbers, of
+    `count`, get wrong answers; None if it never opens. If all do, this is R (C35)."""
+    verdicts = [number in numbers for number in range(count)]
+    most = [verdicts_to_confirm(verdicts[first:] + verdicts[:first], times) for first in range(count)]
+    return None if None in most else (max(most) + 1) * times["period"] - times["send"] - 1
+
+
+def openings_of(calibration, cover):
+    """{(ticks until path 2 opens, how many questions show it): what is exercised so}, the soonest first."""
+    count, openings = len(calibration["question"]), {}
+    ticks_of = {numbers: ticks_to_open(numbers, count, calibration["answers"]) for numbers in map(tuple, cover.values())}
+    for thing, numbers in cover.items():
+        if numbers:
+            openings.setdefault((ticks_of[tuple(numbers)], len(numbers)), []).append(thing)
+    return dict(sorted(openings.items(), key=lambda opening: (opening[0][0] is None, opening[0])))
+
+
+def openings_told(calibration, cover):
+    """When path 2 opens if just one thing is wrong, a line for each time and number of questions."""
+    for (ticks, shown), things in openings_of(calibration, cover).items():
+        opens = "never opens" if ticks is None else f"opens within {ticks} ticks"
+        yield f"by {shown} of {len(calibration['question'])} questions, path 2 {opens}: {'; '.join(in_words(things))}"
+
+
+def latest_told(calibration, cover):
+    """The latest of these openings, beside R."""
+    count = len(calibration["question"])
+    ticks, _ = list(openings_of(calibration, cover))[-1]
+    opens = "may never open" if ticks is None else f"opens within {ticks} ticks"
+    reaction = ticks_to_open(range(count), count, calibration["answers"])
+    return f"if just one thing that is exercised is wrong, path 2 {opens} (R is {reaction})"

@@ -1,0 +1,1 @@
+"""Engines beside the unit: partners, FMUs, noise."""

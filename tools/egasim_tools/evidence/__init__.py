@@ -1,0 +1,1 @@
+"""Evidence: kept calls, judgements of runs, what a run can show."""

@@ -1,0 +1,1 @@
+"""Measurements: mappings, sample and hold, traces and recordings."""

@@ -1,0 +1,1 @@
+"""Reports: pages, verdicts, pictures."""

@@ -1,0 +1,1 @@
+"""Studies: plans, campaigns, folders, joined tables."""
