@@ -11,20 +11,20 @@ import sys
 from egasim_tools.base.files import TOOLS, TOP, read, sum_of, text_in
 from egasim_tools.base.inputs import Inputs
 from egasim_tools.base.program import asked_version, printed_by, program, version_lines
+from egasim_tools.base.ranges import CAMPAIGN_TICKS, RUNS
 from egasim_tools.base.records import drive_of, record_of
 from egasim_tools.base.toml import toml_in
 from egasim_tools.base.tool import fail
+from egasim_tools.base.unit_rules import answer_of, spans_of
 from egasim_tools.base.units import beside, units_of
 from egasim_tools.calibration.parameters import calibration_of, has_ramp, threshold_of, weight_limits_of
 from egasim_tools.calibration.question_coverage import cover_of, missing
-from egasim_tools.calibration.questions import answer_of
 from egasim_tools.evidence.conclusive_runs import Shown, recording_shown, where
-from egasim_tools.evidence.detection import spans_of, taken_by_class
+from egasim_tools.evidence.detection import taken_by_class
 from egasim_tools.evidence.run_results import excess_of
 
 MOST_SWEEPS = 20
 DOCUMENTS = ("SAFETY.md", "PROVED.md", "FORMATS.md")  # of which parts stand in a page
-MOST_SWEPT_RUNS, MOST_SWEPT_TICKS = 1000, 1000000  # of a grid: docs/CONCEPT.md, "`sweep`"
 SWEPT = re.compile(r"([a-z0-9-]+): runs (\d+); (.*); reaction (\d+|none)")
 
 
@@ -161,7 +161,7 @@ class Played(Inputs):
 
     def sweep(self, runs):
         ticks, classes = len(self.records[runs[0]]["on"]), len({row["class"] for row in self.coverage})
-        onsets = min(MOST_SWEPT_RUNS // classes, MOST_SWEPT_TICKS // (classes * ticks))
+        onsets = min(RUNS // classes, CAMPAIGN_TICKS // (classes * ticks))
         step = -(-ticks // onsets)
         return Swept(runs, step, self.call("sweep", self.campaign, runs[0], str(step)).splitlines())
 

@@ -3,14 +3,14 @@
 from html import escape
 
 from egasim_tools.base.command_line import Word
+from egasim_tools.base.ranges import FULL, SPEED
 from egasim_tools.base.units import Units
 from egasim_tools.evidence.conclusive_runs import cut_by
 from egasim_tools.evidence.run_results import SWITCHES_OFF, lacking
 
 FAILS, OPEN, FITS = "Doesn't fit", "Not judged", "Fits"  # the worst first
 MOST_NAMES = 10  # that a line names
-SHOWING_CLASSES = 13 - len(SWITCHES_OFF)  # listed classes under which a run may show a reaction
-RANGES = {"pedal": 1000, "plate": 1000, "load": 1000, "speed": 8000}  # of what a drive may have
+RANGES = {"pedal": FULL, "plate": FULL, "load": FULL, "speed": SPEED}  # of what a drive may have
 WITHOUT_LAPSES, WITHOUT_HELD = "--without-lapses", "--without-held-torque"  # words of find and report
 SAID = {WITHOUT_LAPSES: "level 2 never misses a tick", WITHOUT_HELD: "no torque is held when the demand falls"}
 SAYS = tuple(Word(word, f"you show that {told}; the result says so") for word, told in SAID.items())
@@ -231,8 +231,8 @@ def evidence_point(played):
         onsets = (" A run may show it if its fault begins at the tick at which its excess is confirmed: "
                   f"{named(tell)}." if tell else "")
         return FAILS, f"Reactions without evidence: {shown_by}, and none under {named(without)}.{onsets}{left}"
-    kinds = len(set(showing))
-    return FITS, (f"{shown_by}, at least one of each class that the campaign has, {kinds} of the {SHOWING_CLASSES} that "
+    kinds, may_show = len(set(showing)), {row["class"] for row in played.coverage} - {"lapse", *SWITCHES_OFF}
+    return FITS, (f"{shown_by}, at least one of each class that the campaign has, {kinds} of the {len(may_show)} that "
                   f"can show it. (A fault that acts may change nothing of its run.){left}")
 
 

@@ -9,6 +9,8 @@ from egasim_tools.report.verdicts import (FAILS, FITS, OPEN, beyond_point, cut_b
     is_on_first_ramp, lapse_point, listed_point, misses_point, named, pairs_point, peak_point, points, questions_point,
     room_point, sentence, time_point, verdict)
 
+COVERAGE = [{"class": kind} for kind in ("script offset bus plate skip disturb flip halt timing wild path1-closed path1-closed "
+                                         "path2-closed path-open lapse").split()]
 LIMITS = {"reaction": "34", "lapse": "50", "verdicts": "3", "excess": "5", "spacing": "80", "stretch": "38", "peak": "2300", "ramp": "0",
           "missed": "38"}
 PAIRS = {"pedal": 50, "plate": 50, "load": 50, "speed": 50, "up": 2, "down": 1, "limit": 10}
@@ -33,7 +35,7 @@ def drive_of(row, weights=(), ticks=100, **others):
 
 def played_of(**parts):
     rows = [row_of("sound", "none"), shown_by("halt-0", "halt")]
-    return SimpleNamespace(**{"units": Units(), "limits": LIMITS, "has_ramp": False, "rows": rows, "taken": {}, "sweeps": [], "sound": ["sound"],
+    return SimpleNamespace(**{"units": Units(), "limits": LIMITS, "coverage": COVERAGE, "has_ramp": False, "rows": rows, "taken": {}, "sweeps": [], "sound": ["sound"],
                               "drives": drive_of(rows[0], {"torque": 4}), "blind": [], "resets": lambda name: [], "pairs": PAIRS,
                               "groups": lambda: [[row["run"] for row in parts.get("rows", rows)]], **parts})
 
