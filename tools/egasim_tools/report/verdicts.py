@@ -221,7 +221,7 @@ def evidence_point(played):
     off = f" Left out, since such a fault switches the stages off itself: {named(SWITCHES_OFF)}." if len(listed) < len(rows) else ""
     if not listed:
         return OPEN, f"No run has {'another' if off else 'a'} listed fault, so none shows a reaction. (R is proved, and needs no run.){off}"
-    several = [row for row in listed if any(tick > 0 for tick in played.resets(row["run"]))]
+    several = [row for row in listed if any(tick > 0 for tick in played.resets[row["run"]])]
     showing = [row["class"] for row in listed if row not in several and not lacking(row)]
     without = [kind for kind in dict.fromkeys(row["class"] for row in listed) if kind not in showing]
     shown_by = f"{len(showing)} of {len(listed)} runs under a listed fault show that R is kept"
@@ -241,7 +241,7 @@ def showing_onset(played, kind):
     confirmed, if no fault begins before. None if no run tells it."""
     rows = {row["run"]: row for row in played.rows}
     for group in played.groups():
-        if any(rows[name]["class"] == kind for name in group) and not any(tick > 0 for tick in played.resets(group[0])):
+        if any(rows[name]["class"] == kind for name in group) and not any(tick > 0 for tick in played.resets[group[0]]):
             for row in (rows[name] for name in group):
                 if row["settled"] == "1" and (row["class"] == "none" or int(row["onset"]) > int(row["confirmed"])):
                     return int(row["confirmed"])
