@@ -9,6 +9,7 @@ from egasim_tools.base.command_line import TEXT, TICK_LENGTH, TIME, VERBOSE, For
 from egasim_tools.base.files import refuse_input, room_in, write
 from egasim_tools.base.inputs import Inputs
 from egasim_tools.base.program import program
+from egasim_tools.base.ranges import RAISE
 from egasim_tools.base.tool import TOOL, as_noted, fail
 from egasim_tools.base.units import beside, ticks_of, units_of
 from egasim_tools.calibration.limit_search import Search
@@ -22,7 +23,7 @@ RANGE = re.compile("([0-9]{1,99})(?:-([0-9]{1,99})(?:/([0-9]{1,99}))?)?")
 SAID_BEFORE = re.compile(r"^# As said to find \(.*\n", re.M)  # what --write has put into START
 COMMENTS = re.compile(r"(?:^[ \t]*#.*\n)+|[ \t]*#[^\r\n]*", re.M)  # lines that are comments, or one at the end of a line
 NAMES_VERSION = re.compile(r"\bversion\s+(?:#\s*)?[0-9]", re.I)
-MOST_TORQUE, MOST_ROWS, MOST_MISSES = 10000, 1000, 49
+MOST_ROWS, MOST_MISSES = 1000, 49
 
 
 def said_of(said, units):
@@ -58,8 +59,8 @@ def range_of(part):
     if not match:
         return "is neither a number nor a range, such as 50-150/25"
     first, last, step = (number and int(number) for number in match.groups())
-    if max(first, last or 0) > MOST_TORQUE:
-        return f"is above {MOST_TORQUE}"
+    if max(first, last or 0) > RAISE:
+        return f"is above {RAISE}"
     if last is None:
         return [first]
     if not step:

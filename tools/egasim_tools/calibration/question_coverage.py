@@ -5,10 +5,10 @@ of a result that is stuck, a pair that is never or always said to disagree, a ti
 that is one too great, a raise that never counts, a check word that nobody looks at. So a bad check word is one that keeps a
 raise from counting which would."""
 
-from egasim_tools.calibration.questions import (ALL_BITS, FULL, PAIRS, beyond_tie, distance, estimate, is_good_check,
+from egasim_tools.base.ranges import FULL, RAISE, WORD
+from egasim_tools.base.unit_rules import (PAIRS, beyond_tie, distance, estimate, is_good_check,
     least_permitted, results_of)
 
-MOST_RAISE = 10000  # of a drive, and no table permits more
 NUMBERS = ("the pedal", "the permitted torque", "the estimate of the load")  # what the first three results are
 
 
@@ -17,11 +17,11 @@ def masks_of(calibration):
     kt, loads = calibration["torque"]["kt"], 0
     for load in range(FULL + 1):
         loads |= estimate(kt, load)
-    return (1 << FULL.bit_length()) - 1, (1 << MOST_RAISE.bit_length()) - 1, loads
+    return (1 << FULL.bit_length()) - 1, (1 << RAISE.bit_length()) - 1, loads
 
 
 def bits_of(mask):
-    return [bit for bit in range(ALL_BITS.bit_length()) if mask >> bit & 1]
+    return [bit for bit in range(WORD.bit_length()) if mask >> bit & 1]
 
 
 def things_of(calibration):

@@ -4,8 +4,9 @@ They come in couples, of which one is within a tolerance where the other is just
 plus one, and has those bits of its results that the other hasn't. So two questions exercise everything; more of them go
 through the points of the permit table."""
 
-from egasim_tools.calibration.question_coverage import MOST_RAISE, masks_of
-from egasim_tools.calibration.questions import ALL_BITS, FULL, PAIRS, estimate, least_permitted
+from egasim_tools.base.ranges import FULL, RAISE, WORD
+from egasim_tools.base.unit_rules import PAIRS, estimate, least_permitted
+from egasim_tools.calibration.question_coverage import masks_of
 
 BEYOND = (0b0101, 0b0011, 0b0110)  # the pairs that are beyond their tolerances in the first of a couple
 PEDAL_BITS = 1023  # of a pedal, which is at most 1000; so its complement is one from 23 on
@@ -34,7 +35,7 @@ class Loads:
 
     def least_from(self, first):
         """The least load from `first` on with an estimate of these bits, by the bits."""
-        return {estimate(self.kt, load) & self.mask: load for load in range(ALL_BITS, first - 1, -1)}
+        return {estimate(self.kt, load) & self.mask: load for load in range(WORD, first - 1, -1)}
 
     def couples_of(self, within, beyond):
         return [(load, beyond[self.mask & ~bits]) for bits, load in within.items() if self.mask & ~bits in beyond]
@@ -71,12 +72,12 @@ def put_raise(permit, couple, is_turned):
     """Gives both questions one raise, above what the table permits: to one with its check word, to the other with one that
     is wrong in a bit. What the other's table permits has the bits that the raise hasn't."""
     good, bad = reversed(couple) if is_turned else couple
-    bits = (1 << MOST_RAISE.bit_length()) - 1
+    bits = (1 << RAISE.bit_length()) - 1
     raised = bits - least_permitted(permit, bad)
     if raised <= max(least_permitted(permit, question) for question in couple):
         raised += bits + 1
-    good.update({"raise": raised, "check": ALL_BITS - raised})
-    bad.update({"raise": raised, "check": ALL_BITS - raised ^ 1})
+    good.update({"raise": raised, "check": WORD - raised})
+    bad.update({"raise": raised, "check": WORD - raised ^ 1})
 
 
 def filled(calibration):

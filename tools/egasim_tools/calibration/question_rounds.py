@@ -2,33 +2,8 @@
 
 Right verdicts take back what wrong ones added (docs/CONCEPT.md, "Debouncing"). So path 2 may open later than R, or never."""
 
+from egasim_tools.base.unit_rules import ticks_to_open
 from egasim_tools.calibration.question_coverage import in_words
-
-
-def verdicts_to_confirm(round_of_verdicts, weights):
-    """How many verdicts of a round that comes again and again confirm, true for a wrong one (C10); None if they never do."""
-    up, down, limit = (weights[key] for key in ("up", "down", "limit"))
-    gain = sum(up if wrong else -down for wrong in round_of_verdicts)  # of each round in which the counter isn't held at 0
-    counter = count = 0
-    while True:
-        before, greatest = counter, 0
-        for wrong in round_of_verdicts:
-            counter = counter + up if wrong else max(0, counter - down)
-            count, greatest = count + 1, max(greatest, counter)
-            if counter >= limit:
-                return count
-        if counter == before:
-            return None
-        skipped = (limit - 1 - greatest) // gain if counter - before == gain else 0
-        counter, count = counter + skipped * gain, count + skipped * len(round_of_verdicts)
-
-
-def ticks_to_open(numbers, count, times):
-    """The most ticks from a tick on until path 2 is open, if from this tick on just the questions of these numbers, of
-    `count`, get wrong answers; None if it never opens. If all do, this is R (C35)."""
-    verdicts = [number in numbers for number in range(count)]
-    most = [verdicts_to_confirm(verdicts[first:] + verdicts[:first], times) for first in range(count)]
-    return None if None in most else (max(most) + 1) * times["period"] - times["send"] - 1
 
 
 def openings_of(calibration, cover):

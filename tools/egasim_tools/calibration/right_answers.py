@@ -3,7 +3,7 @@
 from egasim_tools.base.program import printed_of
 from egasim_tools.base.tool import fail
 from egasim_tools.calibration.number_edits import parsed, with_questions
-from egasim_tools.calibration.questions import answer_of
+from egasim_tools.base.unit_rules import answer_of
 
 
 def with_answers(name, text, printed=None):

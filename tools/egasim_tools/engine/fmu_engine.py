@@ -4,6 +4,7 @@ import math
 from fractions import Fraction
 
 from egasim_tools.base.toml import toml_of
+from egasim_tools.base.ranges import FULL
 from egasim_tools.base.tool import fail
 from egasim_tools.base.units import NANOSECONDS, tick_of
 from egasim_tools.engine.fmi import VALUES
@@ -23,7 +24,7 @@ def commands(drive, told):
     a tick of this row, by the line that tells what is commanded."""
     held = None if told["next_held"] == "-" else int(told["next_held"])
     is_on = told["next_on"] == "1" and not drive[COLUMNS.index("reset")]
-    throttle, ignition = (min(1000, int(told[f"next_{name}"])) if is_on else 0 for name in ("throttle", "ignition"))
+    throttle, ignition = (min(FULL, int(told[f"next_{name}"])) if is_on else 0 for name in ("throttle", "ignition"))
     return throttle if held is None else held, ignition, is_on, held
 
 
@@ -89,7 +90,7 @@ class Engine:
         values = instance.get([joint.variable for joint in self.outputs.values()])
         shown = {column: joint.shown(tick, values[joint.variable.name]) for column, joint in self.outputs.items()}
         if self.kt is not None:
-            shown["load"] = -(-shown["torque"] * 1000 // self.kt)
+            shown["load"] = -(-shown["torque"] * FULL // self.kt)
         loads = [shown.get(track, shown.get("load")) for track in ("load1", "load2")]
         return shown["position"] if held is None else held, *loads, shown["torque"]
 

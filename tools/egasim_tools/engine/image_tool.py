@@ -5,8 +5,9 @@ from decimal import Decimal
 
 from egasim_tools.base.command_line import VERBOSE, Form, Kind, Tool, Word, refuse, whole
 from egasim_tools.base.program import printed_of
+from egasim_tools.base.ranges import FULL
 
-FULL, SLICES = 1000, 9  # the greatest pedal and throttle; waits of a tick
+SLICES = 9  # waits of a tick
 GAIN = re.compile(r"[0-2](?:\.\d{1,3})?")
 
 

@@ -3,11 +3,13 @@
 import re
 from random import Random
 
+from egasim_tools.base.ranges import FULL, RAISE, SPEED, WORD
 from egasim_tools.base.tool import fail
+from egasim_tools.base.unit_rules import least_load
 
 # The columns of an answer that are sensed, their places in it, and the greatest number of each.
-SENSED = {"pedal": (0, 1000), "speed": (1, 8000), "position": (5, 1000), "load1": (6, 65535), "load2": (7, 65535)}
-LAST = (1000, 8000, 10000, 1, 1, 1000, 65535, 65535, 65535)  # the greatest number of each field of an answer
+SENSED = {"pedal": (0, FULL), "speed": (1, SPEED), "position": (5, FULL), "load1": (6, WORD), "load2": (7, WORD)}
+LAST = (FULL, SPEED, RAISE, 1, 1, FULL, WORD, WORD, WORD)  # the greatest number of each field of an answer
 TORQUE = 8
 WORD = re.compile(r"(\d{1,10}),(\d{1,5})(?:\.(\d{1,3}))?", re.A)
 ANSWER = re.compile(r"\d{1,5},\d{1,5},\d{1,5},[01],[01],\d{1,5},\d{1,5},\d{1,5},\d{1,5}", re.A)
@@ -36,7 +38,7 @@ class Noise:
     def added(self, line):
         """The answer with noise. One that isn't taken stays as it is, so that the unit refuses it."""
         numbers, draws = numbers_in(line), [self.drawn() for _ in SENSED]
-        least = -(-numbers[TORQUE] * 1000 // self.kt) if numbers else 0
+        least = least_load(self.kt, numbers[TORQUE]) if numbers else 0
         if not numbers or min(numbers[place] for place in (6, 7)) < least:
             return line
         for (column, (place, last)), more in zip(SENSED.items(), draws):

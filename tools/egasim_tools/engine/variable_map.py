@@ -3,12 +3,13 @@
 import math
 from fractions import Fraction
 
+from egasim_tools.base.ranges import FULL, WORD
 from egasim_tools.base.tool import fail
 from egasim_tools.engine.fmi import VALUES
 
 # What the FMU may be given at a tick, and what it has to show: each output's greatest number, and how it is rounded.
 INPUTS = ("pedal", "speed", "raise", "reset", "brake", "throttle", "ignition", "on")
-MOST = {"position": 1000, "load": 65535, "load1": 65535, "load2": 65535, "torque": 65535}
+MOST = {"position": FULL, "load": WORD, "load1": WORD, "load2": WORD, "torque": WORD}
 ROUNDED = {"position": round, "load": math.ceil, "load1": math.ceil, "load2": math.ceil, "torque": math.floor}
 DIGITS = 6  # a value that lies this near to a whole number is that: 4.1 % are 41 per mille
 KEYS = {"name": (str, "the name of a variable"), "unit": (str, "a text"), "factor": ((int, float), "a number"),

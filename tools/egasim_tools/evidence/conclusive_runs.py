@@ -3,8 +3,8 @@
 import re
 from dataclasses import dataclass, field
 
+from egasim_tools.base.unit_rules import spans_of
 from egasim_tools.base.units import Units
-from egasim_tools.evidence.detection import spans_of
 
 FOUND = re.compile(r"(pedal|plate|load|speed|torque) (?:none|at (\d+)); greatest (\d+) of (\d+)")
 

@@ -17,17 +17,6 @@ def matrix(counts):
         yield [kind, *(counts.get((kind, first), 0) for first in FIRSTS)]
 
 
-def spans_of(resets, ticks, test):
-    """The spans of a run whose start-up tests are passed: (first tick, the tick behind the last, whether it is a test)."""
-    if 0 not in resets:
-        yield 0, min([*resets, ticks]), False
-    for begin, end in zip(resets, [*resets[1:], ticks]):
-        drive = min(begin + test + 1, end)
-        yield begin, drive, True
-        if drive < end:
-            yield drive, end, False
-
-
 def sure_row(coverage, kind):
     """The row of `coverage` by which faults of a class are always found, if it is the only such one. That of a lapse doesn't count
     from the onset, but from each missed tick."""

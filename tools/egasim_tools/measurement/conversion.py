@@ -7,6 +7,7 @@ from array import array
 from fractions import Fraction
 
 from egasim_tools.base.files import written
+from egasim_tools.base.ranges import TRACE_TICKS, WORD
 from egasim_tools.base.tool import fail
 from egasim_tools.base.units import NANOSECONDS, decimal, time_told
 from egasim_tools.measurement.csv_export import DECIMALS, DELIMITERS, Measurement
@@ -14,7 +15,7 @@ from egasim_tools.measurement.sample_and_hold import (BEFORE, BEHIND, BETWEEN, D
     NUMBERS, ROUNDED, SAME_TIME, TOO_HIGH, TOO_LOW, TOO_OLD, Counts, Grid, Held)
 from egasim_tools.study.campaigns import Campaign, run_text
 
-MOST_OF_TRACE, MOST_TICKS = 20000, 4000000  # ticks of a trace (docs/FORMATS.md), and of all that is made
+MOST_TICKS = 4000000  # of all that is made
 # What is told of a column, in this order: what was done, and behind the first time how much of it was the most.
 WORDS = {
     NO_NUMBER: ("samples left out, no numbers", None),
@@ -33,7 +34,7 @@ WORDS = {
 # Of a recording: the column of which it is told, the one that it is compared with, and whether their numbers fit together.
 COMPARED = {
     DISAGREE: ("brake2", "brake1", lambda second, first: (first != 0) == (second == 0)),
-    NO_COMPLEMENT: ("check", "raise", lambda word, demand: word == 65535 - demand),
+    NO_COMPLEMENT: ("check", "raise", lambda word, demand: word == WORD - demand),
 }
 
 
@@ -160,7 +161,7 @@ class Drive:
     def cut(self, stretches):
         """The stretches, cut where one has more ticks than a trace takes."""
         for begin, end in stretches:
-            while self.mapping.makes == "trace" and end - begin > MOST_OF_TRACE:
+            while self.mapping.makes == "trace" and end - begin > TRACE_TICKS:
                 last = self.last_cut(begin, end)
                 yield begin, last
                 begin = last
@@ -169,14 +170,14 @@ class Drive:
     def last_cut(self, begin, end):
         """The last tick, at most 20,000 behind the first, before which the mapping lets the trace be cut."""
         if "cut" not in self.held:
-            fail(f"{self.measurement.name} makes {end - begin} ticks in a row, and a trace takes {MOST_OF_TRACE}: [cut] of "
+            fail(f"{self.measurement.name} makes {end - begin} ticks in a row, and a trace takes {TRACE_TICKS}: [cut] of "
                  f"{self.mapping.name} says where it may be cut")
         may, old = self.held["cut"].values, self.held["cut"].gaps
-        for tick in range(begin + MOST_OF_TRACE, begin, -1):
+        for tick in range(begin + TRACE_TICKS, begin, -1):
             if may[tick] and not any(first <= tick < behind for first, behind in old):
                 return tick
         return fail(f"{self.measurement.name}: [cut] lets the trace be cut nowhere from {told_at(self.grid.time(begin))} to "
-                    f"{told_at(self.grid.time(begin + MOST_OF_TRACE))}, {MOST_OF_TRACE} ticks")
+                    f"{told_at(self.grid.time(begin + TRACE_TICKS))}, {TRACE_TICKS} ticks")
 
     # What is written
 

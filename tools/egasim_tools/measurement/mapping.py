@@ -3,6 +3,7 @@
 from fractions import Fraction
 from types import SimpleNamespace
 
+from egasim_tools.base.ranges import FULL, RAISE, SPEED, WORD
 from egasim_tools.base.toml import toml_of
 from egasim_tools.base.tool import fail
 from egasim_tools.base.units import NANOSECONDS, tick_of, time_of
@@ -15,8 +16,7 @@ COLUMNS = {
                   ("brake1", "brake2")),
 }
 HEADERS = {"trace": (3, 4, 5), "recording": (10, 12)}  # how many columns there may be
-MOST = {"pedal": 1000, "speed": 8000, "raise": 10000, "reset": 1, "brake": 1}  # of a trace
-MOST_READ = 65535  # of a recording
+MOST = {"pedal": FULL, "speed": SPEED, "raise": RAISE, "reset": 1, "brake": 1}  # of a trace
 MOST_NUMBER = 10**18  # of what a mapping says
 # What a column is made of where it wasn't measured, if the other one of its pair was: of a recording.
 PAIRS = {"pedal": ", complement = 1000", "plate": ", complement = 1000", "load": "", "speed": "", "brake": ", complement = 1"}
@@ -143,7 +143,7 @@ def source_of(mapping, key, table):
     name, place = mapping.name, f"keys.{key}"
     if not isinstance(table, dict) or ("channel" in table) + ("value" in table) + ("of" in table) != 1:
         fail(f"{name}: {place} must be a table with one of channel, value and of")
-    most = MOST[key] if mapping.makes == "trace" else MOST_READ
+    most = MOST[key] if mapping.makes == "trace" else WORD
     source = SimpleNamespace(key=key, most=most, of=table.get("of"), value=None, complement=None, channel=None, is_edge=False)
     if "value" in table:
         known(name, place, table, ("value",))
@@ -151,7 +151,7 @@ def source_of(mapping, key, table):
     elif "of" in table:
         known(name, place, table, ("of", "complement"))
         if "complement" in table:
-            source.complement = whole_of(name, f"{place}.complement", table["complement"], MOST_READ)
+            source.complement = whole_of(name, f"{place}.complement", table["complement"], WORD)
     else:
         known(name, place, table, (*OF_CHANNEL, "edge") if key == "reset" else OF_CHANNEL)
         source.is_edge = truth_of(name, f"{place}.edge", table.get("edge", False))

@@ -3,26 +3,10 @@
 import itertools
 import os
 
+from egasim_tools.base.unit_rules import readings_of
+
 HEADER = "pedal1,pedal2,plate1,plate2,load1,load2,speed1,speed2,raise,check,brake1,brake2\n"
-TRACKS = (*range(8), 10, 11)  # the places of the tracks 0 to 9 in a line
-RAISE = 8
 ON_LEVEL_2 = ("skip", "disturb", "flip", "halt", "lapse")  # classes under which a replay doesn't tell what level 2 told
-
-
-def readings_of(answer, fault, tick):
-    """What is read at a tick of which these nine numbers were answered, under a fault or None."""
-    pedal, speed, demand, _, brake, position, load1, load2, _ = answer
-    read = [pedal, 1000 - pedal, position, 1000 - position, load1, load2, speed, speed, demand, 65535 - demand, brake, 1 - brake]
-    if not fault or tick < fault["onset"]:
-        return read
-    if fault["class"] == "script":
-        read[TRACKS[fault["track"]]] = fault["values"][(tick - fault["onset"]) % len(fault["values"])]
-    elif fault["class"] == "offset":
-        place = TRACKS[fault["track"]]
-        read[place] = max(0, min(65535, read[place] + fault["add"]))
-    elif fault["class"] == "bus":
-        read[RAISE] ^= fault["mask"]
-    return read
 
 
 def pieces_of(name):

@@ -6,8 +6,8 @@ import sys
 from egasim_tools.base.command_line import CAL, NAME, PER_CENT, TEXT, TICK_LENGTH, TIME, Form, Tool, Word, file
 from egasim_tools.base.units import ticks_of, units_of
 from egasim_tools.evidence.kept_calls import calls_kept
+from egasim_tools.report.asking import Asking
 from egasim_tools.report.html_parts import page
-from egasim_tools.report.program_results import Played
 from egasim_tools.report.sections import parts
 from egasim_tools.report.verdicts import SAYS, said_in
 
@@ -30,12 +30,13 @@ def asked(values):
 def written(values):
     words = asked(values)
     with calls_kept(words.keep) as kept:
-        played = Played(words.campaign, words.cal, words.sound, words.sweep_sound, words.tick)
-        played.add_others(words.coupled, words.recording)
-        played.kept = kept and kept.sealed(played.files())
+        asking = Asking(words.campaign, words.cal)
+        played = asking.played(words.sound, words.sweep_sound, words.tick)
+        asking.add_others(played, words.coupled, words.recording)
+        played.kept = kept and kept.sealed(asking.files())
         title = words.title or f"Report on {os.path.basename(words.campaign)}"
         text = "\n".join(page(title, parts(played, words))) + "\n"
-        played.refuse_changes()
+        asking.refuse_changes()
     sys.stdout.buffer.write(text.encode())
 
 

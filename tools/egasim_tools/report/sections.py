@@ -15,7 +15,7 @@ from egasim_tools.evidence.detection import HEADS, first_of, matrix
 from egasim_tools.evidence.run_results import (CONFIRMED, EXCESS, NO_EXCESS, ONSET, R_PASSED, RESET, about_run, confirmed_of,
     cuts_of, events, excess_of, finds, given_ticks, lacking, windows)
 from egasim_tools.report.html_parts import Html, code, inline, of_document, paragraph, section, shown, table
-from egasim_tools.report.program_results import MOST_SWEEPS, document
+from egasim_tools.report.asking import MOST_SWEEPS
 from egasim_tools.report.run_pictures import record_picture, sweep_picture, taken_picture
 from egasim_tools.report.verdicts import first_ramp_said, is_on_first_ramp, named, verdict
 
@@ -111,15 +111,15 @@ def summary(played):
 # The numbers
 
 
-def meanings(heading):
+def meanings(played, heading):
     """What a table of docs/FORMATS.md says: (its first words, the cells of a row), row by row."""
-    for kind, lines in blocks_of(section_of(document("FORMATS.md"), heading)):
+    for kind, lines in blocks_of(section_of(played.documents["FORMATS.md"], heading)):
         for cells in map(cells_of, lines[2:] if kind == "table" else []):
             yield [word.strip("`").split()[0] for word in cells[0].split(", ")], cells
 
 
 def limits(played):
-    said = {names[0]: cells[1] for names, cells in meanings("The text of `limits`")}
+    said = {names[0]: cells[1] for names, cells in meanings(played, "The text of `limits`")}
     rows = [(code(name), played.units.cell(name, number), inline(said.get(name, ""))) for name, number in played.limits.items()]
     yield from table("limits", ("Line", "Number", "What it says"), rows)
 
@@ -130,7 +130,7 @@ def coverage(played):
     yield from table("coverage: what finds a fault of each class", played.coverage[0],
                      [[LAST_NUMBER.sub(lambda ticks: units.ticks(ticks[0]), cell) if name in ("within", "off") else cell
                        for name, cell in row.items()] for row in played.coverage], "data")
-    yield from columns("The rows of `coverage`", played.coverage)
+    yield from columns(played, "The rows of `coverage`", played.coverage)
     yield from taken_part(played.taken, units)
 
 
@@ -167,7 +167,7 @@ def rows(played):
                     "runs alone.")
     yield paragraph("Whether a row shows that R is kept is told of a drive of one power cycle; of one with resets see its "
                     "picture.")
-    yield from columns("The rows of `table`", played.rows)
+    yield from columns(played, "The rows of `table`", played.rows)
 
 
 def evidence(row):
@@ -175,9 +175,9 @@ def evidence(row):
     return f"no: {reason}" if reason else "yes"
 
 
-def columns(heading, rows):
+def columns(played, heading, rows):
     """What docs/FORMATS.md says of the columns of these rows."""
-    lines = [map(inline, cells) for names, cells in meanings(heading) if set(names) <= set(rows[0])]
+    lines = [map(inline, cells) for names, cells in meanings(played, heading) if set(names) <= set(rows[0])]
     if lines:
         yield from table("The columns", ("Column", "What stands in it"), lines)
 
@@ -188,7 +188,7 @@ def margins(played):
                      weights + [tuple(itertools.starmap(played.units.cell, row.items())) for row in played.margins], "data")
     yield paragraph(Html("After a trip no more answers are sent, and each verdict without one is wrong: <code>answers</code> "
                          "then says nothing, also where it is at its limit."))
-    yield from columns("The rows of `margins`", played.margins)
+    yield from columns(played, "The rows of `margins`", played.margins)
 
 
 # The pictures
@@ -261,7 +261,7 @@ def pictures(played):
     for place, (row, (name, record)) in enumerate(zip(played.rows, played.records.items())):
         if name not in drawn:
             continue
-        run, resets = played.runs[name], played.resets(name)
+        run, resets = played.runs[name], played.resets[name]
         confirmed = list(confirmed_of(excess_of(record, played.threshold), weights, set(resets)))
         given = given_ticks(row, len(record["on"]), resets, confirmed)
         marks = marks_of(record, given)
@@ -369,13 +369,13 @@ def event_table(record, threshold, told, units=Units()):
 # What it rests on
 
 
-def assumptions(_):
-    yield from of_document(section_of(document("SAFETY.md"), "The assumptions"), "The assumptions")
+def assumptions(played):
+    yield from of_document(section_of(played.documents["SAFETY.md"], "The assumptions"), "The assumptions")
 
 
-def claims(_):
+def claims(played):
     folded = []
-    for part in section_of(document("PROVED.md"), "The claims").split("\n### "):
+    for part in section_of(played.documents["PROVED.md"], "The claims").split("\n### "):
         heading, _, text = part.partition("\n")
         if heading in FOLDED:
             folded += [f"claims {ranges_said(sorted(int(number) for number in CLAIM.findall(text)))} ({heading.lower()})"]
@@ -383,13 +383,13 @@ def claims(_):
             yield from of_document(f"### {part}" if heading else part, "The claims")
     yield paragraph(f"Not shown here: {'; '.join(folded)}. docs/PROVED.md has them.")
     yield "<h3>Under which fault what holds</h3>"
-    yield from of_document(section_of(document("PROVED.md"), "Under which fault what holds"), "Under which fault what holds")
+    yield from of_document(section_of(played.documents["PROVED.md"], "Under which fault what holds"), "Under which fault what holds")
 
 
-def not_claimed(_):
+def not_claimed(played):
     for heading in ("What the laws don't say", "What is proved, tested and trusted"):
         yield f"<h3>{shown(heading)}</h3>"
-        yield from of_document(section_of(document("SAFETY.md"), heading), heading)
+        yield from of_document(section_of(played.documents["SAFETY.md"], heading), heading)
 
 
 def provenance(played):

@@ -3,14 +3,14 @@
 from html import escape
 
 from egasim_tools.base.command_line import Word
+from egasim_tools.base.ranges import FULL, SPEED
 from egasim_tools.base.units import Units
 from egasim_tools.evidence.conclusive_runs import cut_by
 from egasim_tools.evidence.run_results import SWITCHES_OFF, lacking
 
 FAILS, OPEN, FITS = "Doesn't fit", "Not judged", "Fits"  # the worst first
 MOST_NAMES = 10  # that a line names
-SHOWING_CLASSES = 13 - len(SWITCHES_OFF)  # listed classes under which a run may show a reaction
-RANGES = {"pedal": 1000, "plate": 1000, "load": 1000, "speed": 8000}  # of what a drive may have
+RANGES = {"pedal": FULL, "plate": FULL, "load": FULL, "speed": SPEED}  # of what a drive may have
 WITHOUT_LAPSES, WITHOUT_HELD = "--without-lapses", "--without-held-torque"  # words of find and report
 SAID = {WITHOUT_LAPSES: "level 2 never misses a tick", WITHOUT_HELD: "no torque is held when the demand falls"}
 SAYS = tuple(Word(word, f"you show that {told}; the result says so") for word, told in SAID.items())
@@ -221,7 +221,7 @@ def evidence_point(played):
     off = f" Left out, since such a fault switches the stages off itself: {named(SWITCHES_OFF)}." if len(listed) < len(rows) else ""
     if not listed:
         return OPEN, f"No run has {'another' if off else 'a'} listed fault, so none shows a reaction. (R is proved, and needs no run.){off}"
-    several = [row for row in listed if any(tick > 0 for tick in played.resets(row["run"]))]
+    several = [row for row in listed if any(tick > 0 for tick in played.resets[row["run"]])]
     showing = [row["class"] for row in listed if row not in several and not lacking(row)]
     without = [kind for kind in dict.fromkeys(row["class"] for row in listed) if kind not in showing]
     shown_by = f"{len(showing)} of {len(listed)} runs under a listed fault show that R is kept"
@@ -231,8 +231,8 @@ def evidence_point(played):
         onsets = (" A run may show it if its fault begins at the tick at which its excess is confirmed: "
                   f"{named(tell)}." if tell else "")
         return FAILS, f"Reactions without evidence: {shown_by}, and none under {named(without)}.{onsets}{left}"
-    kinds = len(set(showing))
-    return FITS, (f"{shown_by}, at least one of each class that the campaign has, {kinds} of the {SHOWING_CLASSES} that "
+    kinds, may_show = len(set(showing)), {row["class"] for row in played.coverage} - {"lapse", *SWITCHES_OFF}
+    return FITS, (f"{shown_by}, at least one of each class that the campaign has, {kinds} of the {len(may_show)} that "
                   f"can show it. (A fault that acts may change nothing of its run.){left}")
 
 
@@ -241,7 +241,7 @@ def showing_onset(played, kind):
     confirmed, if no fault begins before. None if no run tells it."""
     rows = {row["run"]: row for row in played.rows}
     for group in played.groups():
-        if any(rows[name]["class"] == kind for name in group) and not any(tick > 0 for tick in played.resets(group[0])):
+        if any(rows[name]["class"] == kind for name in group) and not any(tick > 0 for tick in played.resets[group[0]]):
             for row in (rows[name] for name in group):
                 if row["settled"] == "1" and (row["class"] == "none" or int(row["onset"]) > int(row["confirmed"])):
                     return int(row["confirmed"])

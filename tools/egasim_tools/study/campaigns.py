@@ -2,11 +2,12 @@
 
 import sys
 
+from egasim_tools.base.ranges import CAMPAIGN_TICKS, RUNS
 from egasim_tools.base.toml import toml_of, toml_text
 from egasim_tools.base.tool import TOOL, fail
 from egasim_tools.study.plan import FAULTS, onsets_of
 
-MOST_RUNS, MOST_TICKS, MOST_BYTES = 1000, 1000000, 4000000  # of a campaign
+MOST_BYTES = 4000000  # of a campaign
 
 
 class Campaign:
@@ -16,7 +17,7 @@ class Campaign:
         self.texts, self.rows, self.inputs, self.ticks, self.bytes = [], [], {}, 0, 0  # inputs in the order of their use
 
     def has_room(self, text, ticks):
-        return (len(self.texts) < MOST_RUNS and self.ticks + ticks <= MOST_TICKS
+        return (len(self.texts) < RUNS and self.ticks + ticks <= CAMPAIGN_TICKS
                 and self.bytes + len(text) <= MOST_BYTES)
 
     def add(self, text, row, inputs, ticks):
@@ -62,8 +63,8 @@ def runs_under_faults(campaign, name, classes, onsets):
     for kind in kinds:
         if kind not in FAULTS:
             fail(f"no class {kind}; the classes are {', '.join(FAULTS)}; all stands for each of them")
-    if len(kinds) * len(places) > MOST_RUNS:
-        print(f"{TOOL}: writes {len(kinds) * len(places)} runs; the program takes {MOST_RUNS} of a campaign at most",
+    if len(kinds) * len(places) > RUNS:
+        print(f"{TOOL}: writes {len(kinds) * len(places)} runs; the program takes {RUNS} of a campaign at most",
               file=sys.stderr, flush=True)
     for kind in kinds:
         for onset in places:

@@ -4,6 +4,7 @@ import itertools
 import random
 import re
 
+from egasim_tools.base.ranges import LIST_LENGTH, TRACE_TICKS, WORD
 from egasim_tools.base.toml import toml_of, toml_text
 from egasim_tools.base.tool import fail
 
@@ -24,7 +25,7 @@ FAULTS = {
     "path-open": {"path": 1},
     "lapse": {"after": [0]},
 }
-MOST_NUMBER, MOST_ONSET, MOST_DRAWN, MOST_LENGTH = 65535, 19999, 1000000, 64
+MOST_DRAWN = 1000000
 SHARE, SHARED = "share", ("onset", "after", "every")  # of 1000 ticks, so many are missed; and the keys that are drawn by it
 PARAMETERS = sorted({"every", SHARE, *(key for keys in FAULTS.values() for key in keys)})
 
@@ -81,7 +82,7 @@ def numbers_of(value, last):
     """The numbers of a range of the plan. `last` is its end where it names none."""
     first, end, step = value.get("from", 0), value.get("to", last), value.get("step", 1)
     if {type(first), type(end), type(step)} != {int} or step < 1 or set(value) - {"from", "to", "step"} \
-            or not -MOST_NUMBER <= first <= end <= MOST_NUMBER:
+            or not -WORD <= first <= end <= WORD:
         fail(f"the plan has a range that is none: {toml_text(value)}")
     return range(first, end + 1, step)
 
@@ -105,8 +106,8 @@ def drawn_from(kind, key, value, last):
         return choices(kind, key, value, last), None
     rest = {name: number for name, number in value.items() if name != "length"}
     numbers = [False, True] if key == "opens" else numbers_of(rest, None)
-    if type(value["length"]) is not int or not 1 <= value["length"] <= MOST_LENGTH:
-        fail(f"{kind}: the length of {key} isn't a whole number from 1 to {MOST_LENGTH}")
+    if type(value["length"]) is not int or not 1 <= value["length"] <= LIST_LENGTH:
+        fail(f"{kind}: the length of {key} isn't a whole number from 1 to {LIST_LENGTH}")
     return numbers, value["length"]
 
 
@@ -127,7 +128,7 @@ def drawn_runs(draws, allowed, count):
 def missed_runs(draws, shares, count, ticks):
     """The values of SHARED and SHARE of so many runs of each share, on a drive of so many ticks."""
     for share in shares:
-        span = min(ticks, MOST_LENGTH * 1000 // share)  # a lapse names no more ticks; on a longer drive they come again
+        span = min(ticks, LIST_LENGTH * 1000 // share)  # a lapse names no more ticks; on a longer drive they come again
         missed = (span * share + 500) // 1000
         if not missed:
             fail(f"lapse: share {share}: so many of 1000 ticks are less than one of {ticks}")
@@ -169,6 +170,6 @@ def onsets_of(text):
             fail(f"no onsets: {part}")
         first, last, step = (int(number) if number else None for number in match.groups())
         last = first if last is None else last
-        if not first <= last <= MOST_ONSET:
+        if not first <= last < TRACE_TICKS:
             fail(f"no onsets: {part}")
         yield from range(first, last + 1, step or 1)

@@ -46,7 +46,7 @@ class Noisy(unittest.TestCase):
         noise, free, cut = Noise("9,30", 1700), Noise("9,30", 1700), dict.fromkeys(SENSED, 0)
         for _ in range(500):
             torque = chance.choice([0, chance.randint(0, 3000)])
-            least = min(load for load in range(2000) if load * 1700 // 1000 >= torque)
+            least = min(load for load in range(2000) if -(-load * 1700 // 1000) >= torque)
             told = [chance.choice([0, 1000, 480]), chance.choice([0, 8000, 1500]), 0, 0, 0, chance.choice([0, 1000, 20]),
                     least + chance.randint(0, 60), least + chance.randint(0, 60), torque]
             numbers, more = numbers_in(noise.added(line_of(told))), numbers_in(free.added(line_of(MIDDLE)))

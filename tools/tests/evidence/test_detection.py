@@ -3,7 +3,8 @@
 import unittest
 from collections import Counter
 
-from egasim_tools.evidence.detection import HEADS, first_of, matrix, spans_of, sure_row, taken_by_class, ticks_taken
+from egasim_tools.base.unit_rules import spans_of
+from egasim_tools.evidence.detection import HEADS, first_of, matrix, sure_row, taken_by_class, ticks_taken
 
 COVERAGE = [{"class": kind, "finds": finds, "within": within, "hidden": hidden} for kind, finds, within, hidden in (
     ("halt", "answers", "34", "0"), ("flip", "mirror", "1", "0"), ("timing", "answers", "34", "0"), ("timing", "-", "-", "1"),
@@ -29,14 +30,6 @@ class Firsts(unittest.TestCase):
         self.assertEqual(told, [["halt", 0, 0, 0, 0, 0, 2, 0, 1, 0, 0], ["bus", 0, 0, 0, 0, 0, 0, 0, 0, 1, 1]])
         self.assertEqual(HEADS, ("class", "mirror", "pedal", "plate", "load", "speed", "torque", "answers", "start",
                                  "nothing, no excess", "nothing, excess"))
-
-
-class Spans(unittest.TestCase):
-    def test_a_test_has_one_tick_more_than_it_waits(self):
-        self.assertEqual(list(spans_of([], 100, 30)), ONE)
-        self.assertEqual(list(spans_of([0, 20, 60], 100, 30)),
-                         [(0, 20, True), (20, 51, True), (51, 60, False), (60, 91, True), (91, 100, False)])
-        self.assertEqual(list(spans_of([90], 100, 30)), [(0, 90, False), (90, 100, True)])
 
 
 class Taken(unittest.TestCase):

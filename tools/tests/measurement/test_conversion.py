@@ -291,8 +291,8 @@ class Cuts(InFolder):
 
     def setUp(self):
         super().setUp()
-        self.addCleanup(setattr, drives, "MOST_OF_TRACE", drives.MOST_OF_TRACE)
-        drives.MOST_OF_TRACE = 20
+        self.addCleanup(setattr, drives, "TRACE_TICKS", drives.TRACE_TICKS)
+        drives.TRACE_TICKS = 20
 
     def drive(self, speeds, mapping):
         self.put("m.toml", mapping)

@@ -3,7 +3,8 @@
 import unittest
 
 from in_folder import InFolder
-from egasim_tools.measurement.recordings import HEADER, Recording, Spans, pieces_of, readings_of
+from egasim_tools.base.unit_rules import readings_of
+from egasim_tools.measurement.recordings import HEADER, Recording, Spans, pieces_of
 
 ANSWER = [300, 1500, 250, 0, 1, 450, 160, 170, 0]  # pedal, speed, raise, reset, brake, position, loads, torque
 SOUND = [300, 700, 450, 550, 160, 170, 1500, 1500, 250, 65285, 1, 0]

@@ -7,14 +7,15 @@ from types import SimpleNamespace
 from egasim_tools.base.documents import section_of
 from egasim_tools.base.units import Units
 from egasim_tools.evidence.detection import Taken
-from egasim_tools.report.program_results import document
+from egasim_tools.report.asking import DOCUMENTS, document
 from egasim_tools.report.sections import (about, claims, coverage, drawn_runs, greatest, not_drawn, pair, summary, sweeps,
     swept_most, warnings)
 
 
 def played_of(**parts):
     return SimpleNamespace(**{"units": Units(), "campaign": "c.toml", "calibration": None, "date": "2026-01-02 03:04 UTC", "version": ["egasim 9", "x"],
-                              "rows": [], "taken": {}, "sweeps": [], "not_asked": [], "left": 0, "limits": {"reaction": "34"}, **parts})
+                              "rows": [], "taken": {}, "sweeps": [], "not_asked": [], "left": 0, "limits": {"reaction": "34"},
+                              "documents": {name: document(name) for name in DOCUMENTS}, **parts})
 
 
 class Drawn(unittest.TestCase):
@@ -50,7 +51,7 @@ class Telling(unittest.TestCase):
         self.assertTrue(any("warning own" in line for line in warnings(own)))
 
     def test_each_claim_has_a_row_or_its_number_in_a_line(self):
-        text = "\n".join(claims(None))
+        text = "\n".join(claims(played_of()))
         rows = [int(number) for number in re.findall(r'<th scope="row">(\d+)\. ', text)]
         lines = re.findall(r"claims ([0-9, to]+) \(", text)
         ranges = re.findall(r"(\d+)(?: to (\d+))?", ", ".join(lines))

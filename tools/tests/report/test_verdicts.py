@@ -1,6 +1,7 @@
 """The points of a verdict."""
 
 import unittest
+from collections import defaultdict
 from types import SimpleNamespace
 
 from egasim_tools.base.units import Units
@@ -9,6 +10,8 @@ from egasim_tools.report.verdicts import (FAILS, FITS, OPEN, beyond_point, cut_b
     is_on_first_ramp, lapse_point, listed_point, misses_point, named, pairs_point, peak_point, points, questions_point,
     room_point, sentence, time_point, verdict)
 
+COVERAGE = [{"class": kind} for kind in ("script offset bus plate skip disturb flip halt timing wild path1-closed path1-closed "
+                                         "path2-closed path-open lapse").split()]
 LIMITS = {"reaction": "34", "lapse": "50", "verdicts": "3", "excess": "5", "spacing": "80", "stretch": "38", "peak": "2300", "ramp": "0",
           "missed": "38"}
 PAIRS = {"pedal": 50, "plate": 50, "load": 50, "speed": 50, "up": 2, "down": 1, "limit": 10}
@@ -33,8 +36,8 @@ def drive_of(row, weights=(), ticks=100, **others):
 
 def played_of(**parts):
     rows = [row_of("sound", "none"), shown_by("halt-0", "halt")]
-    return SimpleNamespace(**{"units": Units(), "limits": LIMITS, "has_ramp": False, "rows": rows, "taken": {}, "sweeps": [], "sound": ["sound"],
-                              "drives": drive_of(rows[0], {"torque": 4}), "blind": [], "resets": lambda name: [], "pairs": PAIRS,
+    return SimpleNamespace(**{"units": Units(), "limits": LIMITS, "coverage": COVERAGE, "has_ramp": False, "rows": rows, "taken": {}, "sweeps": [], "sound": ["sound"],
+                              "drives": drive_of(rows[0], {"torque": 4}), "blind": [], "resets": defaultdict(list), "pairs": PAIRS,
                               "groups": lambda: [[row["run"] for row in parts.get("rows", rows)]], **parts})
 
 
@@ -219,13 +222,13 @@ class Verdicts(unittest.TestCase):
             self.assertEqual("confirmed: flip at 31." in told[1], onset is not None, told)
         other = [row_of("a", "none", confirmed="31", settled="1"), flip]
         self.assertNotIn("flip at", evidence_point(played_of(rows=other, groups=lambda: [["a"], ["flip-3"]]))[1])
-        self.assertNotIn("flip at", evidence_point(played_of(rows=other, resets=lambda name: [0, 9]))[1])
+        self.assertNotIn("flip at", evidence_point(played_of(rows=other, resets=defaultdict(lambda: [0, 9])))[1])
 
     def test_a_run_of_several_power_cycles_shows_nothing(self):
         for resets, state in (([], FITS), ([0], FITS), ([0, 50], FAILS), ([1], FAILS)):
-            self.assertEqual(evidence_point(played_of(resets=lambda name, resets=resets: resets))[0], state)
+            self.assertEqual(evidence_point(played_of(resets=defaultdict(lambda resets=resets: resets)))[0], state)
         rows = [shown_by("a", "halt"), shown_by("b", "halt")]
-        point = evidence_point(played_of(rows=rows, resets=lambda name: [9] if name == "b" else []))
+        point = evidence_point(played_of(rows=rows, resets={"a": [], "b": [9]}))
         self.assertEqual(point, (FITS, "1 of 2 runs under a listed fault show that R is kept, at least one of each class that the campaign has, 1 of the 12 that can show it. "
                                  "(A fault that acts may change nothing of its run.) "
                                  "Of several power cycles, and so not counted: 1; see the pictures."))

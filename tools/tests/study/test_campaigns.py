@@ -4,7 +4,8 @@ import contextlib
 import io
 import tomllib
 
-from egasim_tools.study.campaigns import MOST_BYTES, MOST_RUNS, MOST_TICKS, Campaign, run_of, run_text, runs_under_faults
+from egasim_tools.base.ranges import CAMPAIGN_TICKS, RUNS
+from egasim_tools.study.campaigns import MOST_BYTES, Campaign, run_of, run_text, runs_under_faults
 from in_folder import InFolder
 from notes import note_of
 
@@ -22,13 +23,13 @@ class Campaigns(InFolder):
 
     def test_campaign_grows_up_to_its_limits(self):
         campaign = Campaign()
-        for _ in range(MOST_RUNS):
+        for _ in range(RUNS):
             self.assertTrue(campaign.has_room("x", 1))
             campaign.add("x", ["r"], ["d", "i"], 1)
         self.assertFalse(campaign.has_room("x", 1))
-        self.assertEqual((campaign.inputs, campaign.ticks, campaign.bytes), ({"d": None, "i": None}, MOST_RUNS, MOST_RUNS))
+        self.assertEqual((campaign.inputs, campaign.ticks, campaign.bytes), ({"d": None, "i": None}, RUNS, RUNS))
         campaign = Campaign()
-        campaign.add("xy", [], [], MOST_TICKS - 5)
+        campaign.add("xy", [], [], CAMPAIGN_TICKS - 5)
         self.assertEqual((campaign.has_room("x", 5), campaign.has_room("x", 6)), (True, False))
         self.assertEqual([campaign.has_room("x" * (MOST_BYTES - more), 1) for more in (2, 1)], [True, False])
 
