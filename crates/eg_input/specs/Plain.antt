@@ -1,4 +1,4 @@
--- Outside the headline. A plain file: the header's line, and below it lines of numbers, each line ended by
+-- Outside the headline. A plain file: the line of the header, and below it lines of numbers, each ended by
 -- one line feed.
 use Rattle.std.specs.Prelude.{◌≡◌, ℕ, List, ◌∷◌, ◌++◌, length, Bool, true, Option, Some}
 use Rattle.std.specs.Str.{byte}
@@ -19,11 +19,9 @@ pub record BeginsWithField {X : Type 0} (value_of : List ℕ → Option X) (endi
   pub parts : text ≡ field ++ ending ∷ rest
   pub written : value_of field ≡ Some value
 
--- the field is a number, at most `most`
 abbrev pub BeginsWithNumber : ℕ → ℕ → List ℕ → ℕ → List ℕ → Type 0
 BeginsWithNumber most = BeginsWithField (number_of most)
 
--- the field is a truth value
 abbrev pub BeginsWithTruth : ℕ → List ℕ → Bool → List ℕ → Type 0
 BeginsWithTruth = BeginsWithField truth_of
 
