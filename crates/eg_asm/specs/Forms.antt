@@ -28,6 +28,7 @@ rC = Register 8
 abbrev pub word_form : Form
 word_form = form (codes "word") 0x0000 (Number 65535 ∷ [])
 
+-- F25, F43
 unfoldable pub forms : List Form
 forms =
     form (codes "nop") 0x0000 [] ∷

@@ -85,6 +85,7 @@ words_from labels address [] = []
 words_from labels address (item ∷ items) =
     cons_option (word_at labels address item) (words_from labels (address + size item) items)
 
+-- F25
 abbrev pub item_words : List Item → List ℕ
 item_words items = words_from (labels_of items) 0 items
 

@@ -28,6 +28,7 @@ content_fault nothing ms key = None
 abbrev pub fault_at : Members → CalKey → Option CalFault
 fault_at ms key = content_fault (content_of key) ms key
 
+-- F21
 unfoldable pub first_fault : Members → List CalKey → Option CalFault
 first_fault ms [] = None
 first_fault ms (key ∷ keys) = or_else (fault_at ms key) (first_fault ms keys)

@@ -104,6 +104,7 @@ abbrev pub lower_keys : ℕ → List (List CalKey)
 lower_keys version =
     permit_keys version ∷ torque_keys ∷ pairs_keys ∷ plant_keys ∷ answers_keys ∷ question_keys ∷ []
 
+-- F20
 abbrev pub all_keys : ℕ → List (List CalKey)
 all_keys version = version_keys ∷ lower_keys version
 

@@ -28,7 +28,7 @@ excesses_from rules before (row ∷ rows) =
 abbrev pub excesses : Rules → List CheckRow → List Bool
 excesses rules rows = excesses_from rules 0 rows
 
--- F1, the line of `check`
+-- C76, F1
 abbrev pub check_line : Option ℕ → List ℕ
 check_line None = codes "none\n"
 check_line (Some tick) = codes "torque " ++ decimal tick ++ codes "\n"

@@ -44,7 +44,7 @@ lapse_numbers ticks =
     if ticks.verdicts == 1 then found ticks.reaction (After ticks.reaction)
     else unfound (lapse_off ticks.missed)
 
--- columns `within`, `off` and `hidden`
+-- F44, the columns `within`, `off` and `hidden`
 unfoldable pub numbers_of : CoverageTicks → CoverageCase → CoverageRow
 numbers_of ticks ScriptPedal = found ticks.pair (Confirmed 1)
 numbers_of ticks ScriptPlate = found ticks.pair (After ticks.pair)
@@ -84,7 +84,7 @@ cases =
 
 -- ---- the text ----
 
--- columns `class` and `case`
+-- F44, the columns `class` and `case`
 unfoldable pub case_words : CoverageCase → List ℕ
 case_words ScriptPedal = codes "script,pedal apart by more than its tolerance"
 case_words ScriptPlate = codes "script,plate apart by more than its tolerance"
@@ -196,6 +196,7 @@ coverage_line ticks case = numbers_line case (numbers_of ticks case)
 abbrev pub coverage_lines : CoverageTicks → List CoverageCase → List ℕ
 coverage_lines ticks these = concat (map (coverage_line ticks) these)
 
+-- F44
 unfoldable pub coverage_text : CoverageTicks → List ℕ
 coverage_text ticks = codes "class,case,effect,finds,within,off,hidden\n" ++ coverage_lines ticks cases
 

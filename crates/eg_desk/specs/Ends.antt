@@ -49,7 +49,7 @@ answers_said bytes = answers_of (document_of bytes)
 abbrev pub answers_or_refusal : List ℕ → Result (List Question) Refusal
 answers_or_refusal bytes = refused refusal.Calibration (answers_said bytes)
 
--- F21, but no answer is refused
+-- F3, F21; no answer is refused
 abbrev pub answers_file : List ℕ → Result (List Question) Refusal
 answers_file = sized role.Calibration answers_or_refusal
 
@@ -67,7 +67,7 @@ SourceComes bytes (Err (outcome.Refused (refusal.Source why))) = Assembles bytes
 SourceComes bytes (Err outcome.Memory) = Unit {0}
 SourceComes bytes (Err _) = ⊥
 
--- F27: what comes of the file of a source. If its bytes came, no fault of reading was met.
+-- F3, F27: what comes of the file of a source. If its bytes came, no fault of reading was met.
 abbrev pub SourceFileComes : List ℕ → Change ShownStore → Result (List ℕ) Outcome → Type 0
 SourceFileComes name store come = (read : Result (List ℕ) Outcome)
     × FileComes role.Source (whole role.Source) name store read

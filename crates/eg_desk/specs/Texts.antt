@@ -7,7 +7,7 @@ unfoldable pub number_or_none : Option ℕ → List ℕ
 number_or_none None = codes "none"
 number_or_none (Some n) = decimal n
 
--- F1: the first two lines of `limits`
+-- F1, F40: the first two lines of `limits`
 abbrev pub bound_text : Limits → List ℕ
 bound_text limits =
     (codes "reaction " ++ decimal limits.reaction ++ codes "\n")

@@ -23,7 +23,7 @@ use Rattle.eg_outcome.specs.Inputs.{ImageComes, InputComes, InputsCome, FindsInp
 
 -- ---- which runs are played ----
 
--- F4, of `run`, `table` and `margins`
+-- F3, F4, of `run`, `table` and `margins`
 abbrev pub RunsCome : (campaign : List ℕ) → Change ShownStore → Result (List RunInput) Outcome → Type 0
 RunsCome campaign store come = (plans : Result (List RunPlan) Outcome)
     × FileComes role.Campaign campaign_file campaign store plans

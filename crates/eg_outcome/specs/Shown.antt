@@ -23,6 +23,7 @@ unfoldable pub shown_behind : (before : ℕ) → List ℕ → List ℕ
 shown_behind before [] = []
 shown_behind before (byte ∷ rest) = shown_byte before byte (get_or rest 0 0) ++ shown_behind byte rest
 
+-- F6
 unfoldable pub shown_name : List ℕ → List ℕ
 shown_name name = shown_behind 0 name
 

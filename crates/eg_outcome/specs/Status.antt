@@ -3,6 +3,7 @@ use Rattle.std.specs.Prelude.{ℕ}
 use Rattle.eg_outcome.specs.declared.outcome.Outcome.{Outcome}
 use Rattle.eg_outcome.specs.declared.outcome.Outcome.TheVariants as outcome
 
+-- F3
 abbrev pub status_of : Outcome → ℕ
 status_of outcome.Done = 0
 status_of outcome.Usage = 2

@@ -30,6 +30,7 @@ pub record IsLeastLimit {E : Type 0} (b : BenchEngine E) (r : Run) (tried : ℕ)
   pub from_there : (limit : ℕ) → weight_by b tried r + 1 ≤ limit → limit ≤ 10000 → ¬ IsFoundBy b limit r
   pub below : (limit : ℕ) → 1 ≤ limit → limit < weight_by b tried r + 1 → IsFoundBy b limit r
 
+-- C98, with this limit
 abbrev pub RecordsTellLeastLimit : {E : Type 0} → BenchEngine E → Type 0
 RecordsTellLeastLimit b =
     (r : Run) → IsAccepted r.setting.cal → (tried : ℕ) → tried ≤ 10000 → weight_by b tried r < tried →

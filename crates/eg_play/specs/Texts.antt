@@ -22,6 +22,7 @@ report_text cal inputs =
     concat (map (λ input. summary_line (report_with cal input)) inputs)
     ++ report_end (map (report_with cal) inputs)
 
+-- F30, F31, the header
 unfoldable pub header_of : Columns → List ℕ
 header_of Table = table_header
 header_of Margins = margins_header

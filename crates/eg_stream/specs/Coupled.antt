@@ -43,6 +43,7 @@ entries_by unit (answer ∷ before) = entry_by unit (length before) answer ∷ e
 unfoldable pub coupled_moments : CoupledUnit → List PartnerAnswer → List Moment
 coupled_moments unit answers = moments unit.setting (entries_by unit answers)
 
+-- C90
 unfoldable pub coupled_rows : CoupledUnit → List PartnerAnswer → List Row
 coupled_rows unit answers = rows_of (coupled_moments unit answers)
 
@@ -54,12 +55,12 @@ pub data Objection : Type 0 where
   LoadBelowTorque : Objection
   TorqueWhileOff : Objection
 
--- F37, Load
+-- C89, F37: Load
 unfoldable pub covers : (kt : ℕ) → Shown → Bool
 covers kt shown =
     nat_le shown.torque (estimate kt shown.load_1) && nat_le shown.torque (estimate kt shown.load_2)
 
--- F37, Load and Stages, of an answer after these
+-- C89, F37: Load and Stages, of an answer after these
 unfoldable pub lawful : CoupledUnit → List PartnerAnswer → PartnerAnswer → Result PartnerAnswer Objection
 lawful unit before answer =
     if not (covers unit.setting.cal.rules.kt answer.told) then Err LoadBelowTorque

@@ -74,7 +74,7 @@ EndsBehind work taken state lines out outcome.Memory =
     × (out.after.faults ≡ out.before.faults)
 EndsBehind work taken state lines out _ = ⊥
 
--- A call took lines one after another, which lead to this state, and ended behind them.
+-- F3: a call took lines one after another, which lead to this state, and ended behind them.
 pub record StreamEnds {S : Type 0} (work : LineWork S) (state : S) (lines : Change ShownLines)
     (out : Change ShownSink) (o : Outcome) : Type 0 where
   pub taken : List Line

@@ -31,6 +31,7 @@ commands_text next =
 unfoldable pub first_line : Commands → List ℕ
 first_line next = concat (replicate 21 (codes "-,")) ++ commands_text next
 
+-- F35, of a row
 unfoldable pub coupled_line : Row → Commands → List ℕ
 coupled_line row next = row_columns row ++ codes "," ++ commands_text next
 
