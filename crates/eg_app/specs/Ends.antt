@@ -49,8 +49,8 @@ Ends (Some command) nothing call o = (come : Result Job Outcome) × Gathers comm
     nothing come o
 Ends None nothing call o = (o ≡ outcome.Usage) × nothing
 
--- F5: with this outcome the command put nothing. `couple` put nothing if the outcome doesn't speak of
--- standard input.
+-- F5: with this outcome the command put nothing. `signals` has no such outcome, and `couple` only outcomes
+-- that don't speak of standard input.
 abbrev pub HasPutNothing : Option Command → Outcome → Type 0
 HasPutNothing (Some (by calibration signals)) o = ⊥
 HasPutNothing (Some (by calibration (couple campaign name))) o = PutsNothing o × (role_in o ≢ Some role.Check)

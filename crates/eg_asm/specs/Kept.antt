@@ -67,7 +67,8 @@ Adds line tells old new =
     (items : List Item) (item : Item) → HasForm item → told item ≡ tells → line ≡ length items + 1
     → HoldsItems old items → HoldsItems new (items ++ item ∷ [])
 
--- The same, with the item that the line of this number says.
+-- If the old source holds what is kept of some items, the new source holds what is kept of these and of the
+-- item that the line of this number says.
 abbrev pub ReadsMore : ℕ → List ℕ → Source → Source → Type 0
 ReadsMore number line old new =
     (items : List Item) → number ≡ length items + 1 → HoldsItems old items

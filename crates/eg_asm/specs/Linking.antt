@@ -30,7 +30,7 @@ completed_words labels address [] = []
 completed_words labels address (i ∷ is) =
     cons_option (completed labels address i.1) (completed_words labels (address + 1) is)
 
--- the lower of two numbers of lines, or the one that is there
+-- the lower of two numbers of lines, or the only one
 unfoldable pub earlier : Option ℕ → Option ℕ → Option ℕ
 earlier None other = other
 earlier (Some number) None = Some number

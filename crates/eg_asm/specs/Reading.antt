@@ -76,19 +76,19 @@ values_of (operand ∷ operands) (text ∷ texts) =
 abbrev pub is_byte : ℕ → ℕ → Bool
 is_byte wanted b = b == wanted
 
--- what stands behind the first byte that is this one, where there is one
+-- what stands behind the first byte that is the wanted one, if there is one
 unfoldable pub behind_first : ℕ → List ℕ → Option (List ℕ)
 behind_first wanted text =
     if nat_lt (position_or_len (is_byte wanted) text) (length text)
     then Some (after_first (is_byte wanted) text)
     else None
 
--- what stands before the last byte, where it is this one
+-- what stands before the last byte, if it is the wanted one
 unfoldable pub before_last_byte : ℕ → List ℕ → Option (List ℕ)
 before_last_byte wanted text =
     if bytes_eq (drop (length text - 1) text) (wanted ∷ []) then Some (take (length text - 1) text) else None
 
--- the texts of operands between commas, where they stand behind a space
+-- the texts of operands between commas, if they stand behind a space
 unfoldable pub texts_in : Option (List ℕ) → List (List ℕ)
 texts_in None = []
 texts_in (Some text) = slice_split (is_byte (byte ",")) text

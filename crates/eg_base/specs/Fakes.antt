@@ -65,7 +65,7 @@ put_fails sink = is_listed sink.failing sink.puts
 abbrev pub after_put : SinkState → List ℕ → SinkState
 after_put sink bytes = record sink { bytes = sink.bytes ++ bytes; puts = next_count sink.puts }
 
--- the output after a put of these bytes that failed: the first half of them was appended
+-- the output after a failed put of these bytes: the first half of them was appended
 abbrev pub after_failed_put : SinkState → List ℕ → SinkState
 after_failed_put sink bytes = record sink {
   bytes = sink.bytes ++ take (length bytes / 2) bytes;

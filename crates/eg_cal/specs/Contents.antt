@@ -18,7 +18,7 @@ members_of (c ∷ cs) ms = table_at (c ∷ cs) ms
 abbrev pub value_of : Members → CalKey → Option Data
 value_of ms key = members_of (table_of key) ms >>= get_member (name_of key)
 
--- ---- what it is, where it is of that form
+-- ---- the value, if it is what the key may hold
 
 abbrev pub read_number : ℕ → ℕ → Members → CalKey → Option ℕ
 read_number low high ms key = value_of ms key >>= number_in low high

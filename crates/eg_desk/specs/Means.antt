@@ -145,7 +145,7 @@ abbrev pub AllHide : CalibrationParts → (Class → Bool) → Type 0
 AllHide cal meant =
     IsAccepted cal → (fault : Fault) → IsValid fault → meant fault.class ≡ true → StaysHidden cal fault
 
--- the same on the diesel engine, which shows no load at rest
+-- C100, of each valid fault of such a class, on the diesel engine, which shows no load at rest
 abbrev pub AllHideAtRest : CalibrationParts → (Class → Bool) → Type 0
 AllHideAtRest cal meant =
     IsAccepted cal → (fault : Fault) → IsValid fault → meant fault.class ≡ true →
@@ -198,7 +198,7 @@ MeansPedal cal meant row = (row.hidden ≡ false) × OfRuns cal meant (λ s faul
     FoundIn row.within (λ n. EachDriveSpan (FindsApart pedal_pair s n) rows)
     × OffConfirmed row.off (ReactsIn s rows))
 
--- another pair is found and cut
+-- a pair other than the pedal's is found and cut
 abbrev pub MeansApart : CalibrationParts → (Class → Bool) → Pair → CoverageRow → Type 0
 MeansApart cal meant pair row = (row.hidden ≡ false) × OfRuns cal meant (λ s fault rows.
     FoundIn row.within (λ n. EachDriveSpan (FindsApart pair s n) rows)

@@ -12,7 +12,7 @@ use Rattle.eg_input.specs.Rows.{is_header}
 abbrev pub records_below : List ℕ → List Record
 records_below text = records_after state.StartRecord text
 
--- the text begins with a field that is read as this value, and with this byte, and goes on with the rest
+-- the text begins with a field of this value, goes on with this byte, and then with the rest
 pub record BeginsWithField {X : Type 0} (value_of : List ℕ → Option X) (ending : ℕ) (text : List ℕ)
     (value : X) (rest : List ℕ) : Type 0 where
   pub field : List ℕ

@@ -12,7 +12,8 @@ unfoldable pub fed_all : WeightParts → List Bool → ℕ
 fed_all w [] = 0
 fed_all w (bad ∷ before) = fed w (fed_all w before) bad
 
--- the same number by windows (C9): the limit once it is confirmed, and until then the greatest weight
+-- what the counter holds, by windows (C9): the limit once the bad bit is confirmed, and until then the
+-- greatest weight
 unfoldable pub counted : WeightParts → List Bool → ℕ
 counted w bits = if is_confirmed w bits then w.limit else greatest w bits
 

@@ -44,7 +44,7 @@ first_index w [] = None
 first_index w (bad ∷ before) =
     if is_first w (bad ∷ before) then Some (length before) else first_index w before
 
--- the greatest of some numbers, and 0 where there is none
+-- the greatest of some numbers, or 0 if there are none
 unfoldable pub greatest_of : List ℕ → ℕ
 greatest_of [] = 0
 greatest_of (n ∷ ns) = max n (greatest_of ns)

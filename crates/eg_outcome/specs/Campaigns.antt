@@ -18,7 +18,7 @@ campaign_said bytes = campaign_of (document_of bytes)
 abbrev pub campaign_or_refusal : List ℕ → Result (List RunPlan) Refusal
 campaign_or_refusal bytes = refused refusal.Campaign (campaign_said bytes)
 
--- F9: these bytes say this drive, and the drive may be played
+-- F9, F11: these bytes say this drive, and the drive may be played
 pub record IsTraceOf (bytes : List ℕ) (drive : List DriveRow) : Type 0 where
   pub says : drive_rows (records_of bytes) ≡ Ok drive
   pub some : 1 ≤ length drive

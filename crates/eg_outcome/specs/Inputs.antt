@@ -89,7 +89,8 @@ abbrev pub FindsRuns : Change ShownStore → List RunPlan → Type 0
 FindsRuns store [] = Unit {0}
 FindsRuns store (plan ∷ plans) = FindsInput store plan × FindsRuns store plans
 
--- the same of all runs from run n on; `sum` is the ticks of the runs before
+-- whatever reads of the files of the runs from run n on may give is accepted (F18); `sum` is the ticks of the
+-- runs before
 abbrev pub AcceptsRuns : ShownStore → ℕ → ℕ → List RunPlan → Type 0
 AcceptsRuns store n sum [] = Unit {0}
 AcceptsRuns store n sum (plan ∷ plans) = AcceptsInput (too_many sum n) store n plan

@@ -9,7 +9,7 @@ pub record Shown : Type 0 where
   pub load_2 : ℕ
   pub torque : ℕ
 
--- C19, but for the law of the stages that are off
+-- C19, but for the law of stages that are off, which stands in `KeepsBenchLaws` of `eg_model`
 pub record KeepsLaws (kt : ℕ) (shown : Shown) : Type 0 where
   pub position : shown.position ≤ 1000
   pub load_1 : shown.torque ≤ estimate kt shown.load_1

@@ -3,7 +3,7 @@
 use Rattle.std.specs.Prelude.{◌≡◌, ℕ, Bool, Option, if◌then◌else◌}
 use Rattle.eg_plant.specs.Engine.{Shown, KeepsLaws}
 
--- such an engine: the torque of a load of 1000, what it shows, and what it is to show after its next step
+-- an engine elsewhere: `kt`, what it shows, and what it is to show after its next step
 pub record Foreign : Type 0 where
   pub kt : ℕ
   pub shown : Shown

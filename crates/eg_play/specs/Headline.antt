@@ -36,25 +36,26 @@ pub record Headline {E : Type 0} (b : BenchEngine E) (s : Setting) (drive : List
   -- C55: the rows show the drive, the permitted torque (C95) and what the engine shows from step to step.
   -- There is torque only while the stages are on. A path is shown as the fault makes it (C44).
   pub shows : ShowsRun b s drive rows
-  -- C40, C41, C44. In a test span only `start` and `mirror` find something.
+  -- C40 and C41, power cycles, and C44, when the stages are on. In a test span only `start` and `mirror` find
+  -- something.
   pub cycles : SpansBeginInTurn (test_ticks_of s.cal.times) rows
-  -- C62
+  -- C62, the reaction theorem
   pub reacts : IsListed s.fault → EachDriveSpan (ReactWithin (reaction_of s.cal.times)
       s.cal.rules.torque s.cal.rules.threshold) rows
   pub at_once : IsListed s.fault → EachDriveSpan (RowsReactAtOnce s.fault
       s.cal.rules.torque s.cal.rules.threshold) rows
-  -- C41
+  -- C41, of each test span
   pub unpowered : EachTestSpan AreOff rows
-  -- C68
+  -- C68, the sharp cut
   pub passes : All (NeverFails s.fault) rows
   pub cuts : s.fault ≡ None → EachDriveSpan (CutOneTickAfter s.cal.rules.torque
       s.cal.rules.kt s.cal.rules.threshold) rows
   -- C68, before the onset of any fault
   pub cuts_before : EachDriveSpan (CutSharplyBefore s.fault s.cal.rules.torque s.cal.rules.kt
       s.cal.rules.threshold) rows
-  -- C63
+  -- C63, from the onset of a `skip`, `disturb` or `halt`
   pub from_onset : EachDriveSpan (CutFromOnset s.fault (reaction_of s.cal.times)) rows
-  -- C69
+  -- C69, no cut without a watch
   pub finds_before_off : EachDriveSpan (FindsBeforeOff s.fault) rows
   pub finds_failure : EachTestSpan FindsFailure rows
   -- C68: what is found before the onset
@@ -63,26 +64,26 @@ pub record Headline {E : Type 0} (b : BenchEngine E) (s : Setting) (drive : List
   -- C70: claims 16 and 17
   pub finds_from_onset : EachDriveSpan (FindsFromOnset s.fault (reaction_of s.cal.times)) rows
   pub tells_flips : TellsFlips s.fault rows
-  -- C71. By some calibrations, such as the reference calibration, no excess stands so long; then only the
-  -- second field says something.
+  -- C71, the bound for lapses. By some calibrations, such as the reference calibration, no excess stands so
+  -- long; then only the second field says something.
   pub lapses : BoundsLapses s.cal → IsLapse s.fault →
       EachDriveSpan (CutStandingExcess s.cal) rows
   pub short : BoundsLapses s.cal → IsLapse s.fault →
       EachDriveSpan (ExcessIsShort s.cal) rows
-  -- C102
+  -- C102, misses that go on
   pub misses : KeepsMissing s.fault s.cal.times.period → EachDriveSpan (MissesAreCut s) rows
   pub for_good : (onset : ℕ) → s.fault ≡ Some (never_again onset) →
       EachDriveSpan (CutForGood onset (reaction_of s.cal.times)) rows
-  -- C65
+  -- C65, how long an excess stands
   pub stretches : IsListed s.fault → EachDriveSpan (RowsEndStretches s.cal.rules.threshold
       (longest_stretch s.cal)) rows
   pub stretches_at_once : IsListed s.fault → EachDriveSpan (RowsEndStretchesAtOnce s.fault
       s.cal.rules.torque s.cal.rules.threshold (ticks_to_confirm s.cal)) rows
-  -- C66
+  -- C66, how often an excess comes
   pub bursts : EachDriveSpan (RowsAreSparse s.cal.rules.torque s.cal.rules.threshold) rows
-  -- C73
+  -- C73, availability
   pub stays_available : EachDriveSpan (AvailableIfSpaced s) rows
-  -- C59, whatever name the report gives the run
+  -- C59, the report, whatever name it gives the run
   pub detects : (name : List ℕ) → IsFirstDetection rows (report name).first
   pub tells_when_off : (name : List ℕ) → IsFirstOff rows (report name).off
   pub tells_trap : (name : List ℕ) → (report name).trap ≡ trap

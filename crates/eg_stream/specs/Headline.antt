@@ -36,7 +36,7 @@ use Rattle.eg_stream.specs.Coupled.{CoupledUnit, entry_by, entries_by, coupled_r
 
 -- C90: what holds besides if the engine showed one load twice at each tick
 pub record SharpHeadline (s : Setting) (rows : List Row) : Type 0 where
-  -- C68
+  -- C68, the sharp cut
   pub cuts : s.fault ≡ None → EachDriveSpan (CutOneTickAfter s.cal.rules.torque
       s.cal.rules.kt s.cal.rules.threshold) rows
   pub cuts_before : EachDriveSpan (CutSharplyBefore s.fault s.cal.rules.torque s.cal.rules.kt
@@ -44,49 +44,49 @@ pub record SharpHeadline (s : Setting) (rows : List Row) : Type 0 where
   -- C68: what is found before the onset
   pub finds_sharply : EachDriveSpan (FindsSharply s.fault s.cal.rules.torque s.cal.rules.kt
       s.cal.rules.threshold) rows
-  -- C73
+  -- C73, availability
   pub stays_available : EachDriveSpan (AvailableIfSpaced s) rows
 
--- C102, of path 2, if N is 1
+-- C102, of path 2: it doesn't conduct from R ticks after each missed tick of a drive span on
 abbrev pub OpensAfterMisses : Setting → (start : ℕ) → List Row → Type 0
 OpensAfterMisses s start rows =
     (tick : ℕ) → start ≤ tick → misses_tick s.fault tick ≡ true →
     All (λ row. tick + reaction_of s.cal.times ≤ row.tick → row.path2 ≡ false) rows
 
 pub record CoupledHeadline (s : Setting) (rows : List Row) (one_load : Type 0) : Type 0 where
-  -- C40, C44
+  -- C40, power cycles, and C44, when the stages are on
   pub cycles : SpansBeginInTurn (test_ticks_of s.cal.times) rows
-  -- C62
+  -- C62, the reaction theorem
   pub reacts : IsListed s.fault → EachDriveSpan (ReactWithin (reaction_of s.cal.times)
       s.cal.rules.torque s.cal.rules.threshold) rows
   pub at_once : IsListed s.fault → EachDriveSpan (RowsReactAtOnce s.fault
       s.cal.rules.torque s.cal.rules.threshold) rows
-  -- C41, C68
+  -- C41, C68, of each test span
   pub unpowered : EachTestSpan AreOff rows
   pub passes : All (NeverFails s.fault) rows
-  -- C63, C70
+  -- C63, C70, from the onset of a `skip`, `disturb` or `halt`
   pub from_onset : EachDriveSpan (CutFromOnset s.fault (reaction_of s.cal.times)) rows
   pub finds_from_onset : EachDriveSpan (FindsFromOnset s.fault (reaction_of s.cal.times)) rows
-  -- C69, C70
+  -- C69, no cut without a watch, and C70, of flips
   pub finds_before_off : EachDriveSpan (FindsBeforeOff s.fault) rows
   pub finds_failure : EachTestSpan FindsFailure rows
   pub tells_flips : TellsFlips s.fault rows
-  -- C71
+  -- C71, the bound for lapses
   pub lapses : BoundsLapses s.cal → IsLapse s.fault →
       EachDriveSpan (CutStandingExcess s.cal) rows
   pub short : BoundsLapses s.cal → IsLapse s.fault →
       EachDriveSpan (ExcessIsShort s.cal) rows
-  -- C103
+  -- C103, the longest excess under lapses
   pub missed : BoundsMissed s.cal → IsLapse s.fault →
       EachDriveSpan (ExcessIsBelow s.cal.rules.threshold (longest_missed s.cal + 1)) rows
-  -- C102
+  -- C102, misses that go on
   pub misses : KeepsMissing s.fault s.cal.times.period → EachDriveSpan (MissesAreCut s) rows
   pub for_good : (onset : ℕ) → s.fault ≡ Some (never_again onset) →
       EachDriveSpan (CutForGood onset (reaction_of s.cal.times)) rows
   -- C102, if N is 1
   pub one_verdict : IsLapse s.fault → feeds_to_confirm s.cal.times.weights ≡ 1 →
       EachDriveSpan (OpensAfterMisses s) rows
-  -- C65, C66
+  -- C65, how long an excess stands, and C66, how often an excess comes
   pub stretches : IsListed s.fault → EachDriveSpan (RowsEndStretches s.cal.rules.threshold
       (longest_stretch s.cal)) rows
   pub stretches_at_once : IsListed s.fault → EachDriveSpan (RowsEndStretchesAtOnce s.fault

@@ -28,7 +28,7 @@ pub record CommandsAreUsed (s : Setting) (h : List Entry) : Type 0 where
       HaveOutputsOf (row_of (length before) (next s e before)) (commands_next s h)
   pub at_first : h ≡ [] → HaveNoOutputs (commands_next s h)
   pub after_test : has_passed (moments s h) ≡ true → HaveNoOutputs (commands_next s h)
-  -- the plate where the fault holds it
+  -- where the fault holds the plate, if it does
   pub held : (drive : DriveRow) → (commanded_at s drive h).held ≡ (effects_after s h).held_plate
   -- F35: a row that resets the unit commands nothing, and the plate is held where it was told
   pub at_reset : (drive : DriveRow) → drive.reset ≡ true → commanded_at s drive h

@@ -2,7 +2,7 @@
 -- there is none. The faults may be those of any kind of file.
 use Rattle.std.specs.Prelude.{◌≡◌, ◌⊎◌, Bool, true, false, List, [], ◌∷◌, Option, Some, None, Result, Ok, Err}
 
--- ---- faults, where there may be none ----
+-- ---- faults, if there are any ----
 
 -- the first of two
 abbrev pub or_else : {F : Type 0} → Option F → Option F → Option F
@@ -40,7 +40,7 @@ abbrev pub Checks : {F X : Type 0} → Option F → X → Result X F → Type 0
 Checks f value (Ok x) = (f ≡ None) × (x ≡ value)
 Checks f value (Err e) = f ≡ Some e
 
--- the same of a reader, which may run out of memory too, and has a fault of its own for that
+-- what a reader answers; `memory` is its fault if memory runs out
 abbrev pub Reads : {F X : Type 0} → F → Option F → X → Result X F → Type 0
 Reads memory f value (Ok x) = (f ≡ None) × (x ≡ value)
 Reads memory f value (Err e) = (e ≡ memory) ⊎ (f ≡ Some e)

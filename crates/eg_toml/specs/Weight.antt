@@ -16,7 +16,7 @@ pub record Weighed : Type 0 where
   pub due : Due
   -- what stands in the list or the inline table that was opened last and is open still, or behind a heading
   pub counts : Counts
-  -- what stands in each that is open around it, from the outside in
+  -- what stands in each open list or inline table around that, from the outside in
   pub around : List Counts
   -- what these bytes weigh
   pub weight : ℕ
