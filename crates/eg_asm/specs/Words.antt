@@ -1,4 +1,4 @@
--- The word of each instruction (F43), and the first line at fault by a label (F26, F27). Such a line is of
+-- The word of each instruction (F43), and the first line that has a fault of labels (F27). Such a line is of
 -- the grammar.
 use Rattle.std.specs.Prelude.{ℕ, ◌+◌, ◌-◌, ◌*◌, ℤ, pos, negsuc, ◌-ℤ◌, if◌then◌else◌, nat_lt, Bool, true, List, [], ◌∷◌, ◌++◌, length, Option, Some, None, is_none, is_some, option_map, option_and_then}
 use Rattle.std.specs.List.{cons_option}

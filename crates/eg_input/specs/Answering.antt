@@ -1,4 +1,4 @@
--- The answer of a partner in one line (F36). The line's feed is taken off already.
+-- The answer of a partner, in one line (F36). Its line feed is taken off already.
 use Rattle.std.specs.Prelude.{ℕ, Bool, List, Option, Some}
 use Rattle.std.specs.Str.{byte}
 use Rattle.eg_input.specs.Fields.{number_of, truth_of, first_said, ◌>>=◌}

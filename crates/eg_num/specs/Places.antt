@@ -1,5 +1,5 @@
--- Debouncing (C9) as a reader says the rule: a list stands in the order of time, the first feed at place 0.
--- It is the same rule as that of `Windows`, whose lists stand newest first.
+-- Debouncing (C9) in the order of time: the first feed of a list stands at place 0. The rule is that of
+-- `Windows`, whose lists stand newest first.
 use Rattle.std.specs.Prelude.{◌≡◌, ◌⊎◌, ◌↔◌, ℕ, ◌+◌, ◌*◌, ◌≤◌, ◌<◌, Bool, not, IsTrue, List, length, take, reverse, slice_range, count_by, Option, MatchOption}
 use Rattle.eg_num.specs.Windows.{WeightParts, AreWeights, is_reached, is_confirmed, is_first, first_index}
 use Rattle.eg_num.specs.Counting.{fed_all}

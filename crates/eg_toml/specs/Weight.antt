@@ -34,8 +34,8 @@ abbrev pub text_weight : ℕ
 text_weight = 32
 
 -- F22, an `=`. A table has room for fifteen names at first. Each further name may double the room, and is
--- looked up behind the whole heading once more, so that it weighs much. Of good files only a calibration
--- without headings has further names, thirteen or fourteen.
+-- looked up behind the whole heading once more, so that it weighs much. Of good files only a calibration with
+-- dotted names at its top has further names, at most fifteen.
 abbrev pub name_weight : ℕ → ℕ
 name_weight names = if nat_lt names 15 then 32 else 27_000
 
