@@ -1,8 +1,5 @@
 -- How a call ends (F3, F5). It first gathers a job, and then performs the job: so nothing is put, no line is
--- read and no tick is made before all files are accepted. A fault that is met is counted, and each case says
--- whose count stayed too. So each outcome comes exactly if its case says so (unless a count stands at the
--- last value of a u64); only running out of memory may come at any place. If a call reads several files, the
--- count doesn't say which read met a fault: over a sure store `FileComes` and `TellsMissing` do, else a test.
+-- read and no tick is made before all files are accepted.
 use Rattle.std.specs.Prelude.{◌≡◌, ◌≢◌, ℕ, List, Option, Some, None, Result, Ok}
 use Rattle.eg_base.specs.Outside.{ShownStore, ShownSink, Rose}
 use Rattle.eg_lines.specs.Lines.{ShownLines}
@@ -42,7 +39,11 @@ abbrev pub call : Change ShownStore → Change ShownLines → Change ShownSink �
 call store lines out ticks = record { store = store; lines = lines; out = out; ticks = ticks }
 
 -- F3: a job was gathered, no fault of reading a file was met, and the job was performed; or the call ended
--- without a job, and `nothing` holds. If the words ask for nothing, the outcome is Usage.
+-- without a job, and `nothing` holds. If the words ask for nothing, the outcome is Usage. A fault that is met
+-- is counted, and each case says whose count stayed too. So each outcome comes exactly if its case says so
+-- (unless a count stands at the last value of a u64); only running out of memory may come at any place. If a
+-- call reads several files, the count doesn't say which read met a fault: over a sure store `FileComes` and
+-- `TellsMissing` do, else a test.
 abbrev pub Ends : Option Command → (nothing : Type 0) → Call → Outcome → Type 0
 Ends (Some command) nothing call o = (come : Result Job Outcome) × Gathers command call.store come
     × WorkFollows (λ one end. MeetsNoFault call.store × Performs one call.lines call.out call.ticks end)

@@ -81,7 +81,7 @@ HiddenIn false P = ⊥
 abbrev pub IsOffFrom : (onset n start : ℕ) → List Row → Type 0
 IsOffFrom onset n start rows = All (λ row. max onset start + n ≤ row.tick → row.on ≡ false) rows
 
--- From that tick on, `answers` has found something in the span before each row.
+-- Of a drive span: before each row from that tick on, `answers` has found something in the span.
 abbrev pub FindsAnswersWithin : (onset n start : ℕ) → List Row → Type 0
 FindsAnswersWithin onset n start rows =
     (later before : List Row) (row : Row) → rows ≡ later ++ row ∷ before → max onset start + n ≤ row.tick →

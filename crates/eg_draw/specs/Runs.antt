@@ -88,7 +88,7 @@ fault_of class x =
     if class == 14 then None
     else Some (record { onset = draw x % 2000; class = class_of class (next x) })
 
--- the onset takes a draw
+-- a draw for the onset, and those of the class
 unfoldable pub fault_draws : ℕ → ℕ
 fault_draws class = if class == 14 then 0 else 1 + class_draws class
 

@@ -48,7 +48,7 @@ FileComes file says name store (Err end) = MeetsNoFault store × ReadComes says 
 
 -- ---- what a call that reads tells and leaves ----
 
--- What comes of the file of this name. Over a sure store the file can't be read exactly if there is none. No
+-- What comes of the file of this name. Over a sure store reading fails exactly if there is no such file. No
 -- refusal says that memory ran out.
 pub record ReadsFile {X : Type 0} (file : Role) (says : List ℕ → Result X Refusal) (name : List ℕ)
     (store : Change ShownStore) (come : Result X Outcome) : Type 0 where

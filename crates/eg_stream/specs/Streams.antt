@@ -13,8 +13,9 @@ use Rattle.eg_outcome.specs.declared.outcome.Role.TheVariants as role
 -- ---- what a command makes of lines ----
 
 -- What a command over lines does. A state says what the lines so far came to; `start` is the state of no
--- lines. By a line and its number, from 1 on, `step` leads from a state to the next, or refuses the line. In
--- a state `so_far` is written so far, and `whole` in all, if no line is left and this isn't refused.
+-- lines. By a line and its number, from 1 on, `step` leads from a state to the next, or refuses the line.
+-- `so_far` is what is written so far in a state. `whole` is what is written in all if no line is left, or how
+-- this end is refused.
 pub record LineWork (S : Type 0) : Type 0 where
   pub start : S
   pub step : (number : ℕ) → S → Line → Result S Refusal
@@ -52,8 +53,9 @@ RefusesNext work taken state lines why =
     × (work.step (length taken + 1) state bad ≡ Err why))
     ⊎ (Come lines taken × IsAtEnd lines × (work.whole state ≡ Err why))
 
--- Behind lines that were taken and lead to this state, what each outcome says (F3). A fault is told exactly
--- if its count rose. Over a sure source no fault of reading is told.
+-- Behind lines that were taken and lead to this state, what each outcome says (F3). If an outcome tells a
+-- fault, the count of such faults rose; every other count stayed. Over a sure source no fault of reading is
+-- told.
 abbrev pub EndsBehind : {S : Type 0} → LineWork S → List Line → S → Change ShownLines → Change ShownSink
     → Outcome → Type 0
 EndsBehind work taken state lines out outcome.Done =
