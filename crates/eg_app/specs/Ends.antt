@@ -1,8 +1,5 @@
--- A call first gathers a job, and then performs it: so nothing is put, no line is read and no tick is made
--- before all files are accepted. A fault that is met is counted, and each case says whose count stayed too.
--- So each outcome comes exactly if its case says (but where a count stands at the last value of a u64);
--- running out of memory alone may come at any place. Where a call reads several files, the count doesn't tell
--- which of the reads met a fault: over a sure store `FileComes` and `TellsMissing` do, else a test.
+-- How a call ends (F3, F5). It first gathers a job, and then performs the job: so nothing is put, no line is
+-- read and no tick is made before all files are accepted.
 use Rattle.std.specs.Prelude.{◌≡◌, ◌≢◌, ℕ, List, Option, Some, None, Result, Ok}
 use Rattle.eg_base.specs.Outside.{ShownStore, ShownSink, Rose}
 use Rattle.eg_lines.specs.Lines.{ShownLines}
@@ -32,7 +29,6 @@ use Rattle.eg_app.specs.Gathered.{Gathers}
 use Rattle.eg_app.specs.Performed.{Performs}
 use Rattle.eg_desk.specs.Words.{Command, by, soak, answers, asm, dis, Work, check, run, record_run, sweep, signals, couple}
 
--- what a call changes: its store, its lines, its output and its count of ticks
 pub record Call : Type 0 where
   pub store : Change ShownStore
   pub lines : Change ShownLines
@@ -42,16 +38,20 @@ pub record Call : Type 0 where
 abbrev pub call : Change ShownStore → Change ShownLines → Change ShownSink → Change TickCount → Call
 call store lines out ticks = record { store = store; lines = lines; out = out; ticks = ticks }
 
--- A job was gathered, no fault of reading a file was met, and it was performed; or the call ended without
--- one, and nothing was done. Where the words ask for nothing the outcome is Usage.
+-- F3: a job was gathered, no fault of reading a file was met, and the job was performed; or the call ended
+-- without a job, and `nothing` holds. If the words ask for nothing, the outcome is Usage. A fault that is met
+-- is counted, and each case says whose count stayed too. So each outcome comes exactly if its case says so
+-- (unless a count stands at the last value of a u64); only running out of memory may come at any place. If a
+-- call reads several files, the count doesn't say which read met a fault: over a sure store `FileComes` and
+-- `TellsMissing` do, else a test.
 abbrev pub Ends : Option Command → (nothing : Type 0) → Call → Outcome → Type 0
 Ends (Some command) nothing call o = (come : Result Job Outcome) × Gathers command call.store come
     × WorkFollows (λ one end. MeetsNoFault call.store × Performs one call.lines call.out call.ticks end)
     nothing come o
 Ends None nothing call o = (o ≡ outcome.Usage) × nothing
 
--- With this outcome the command put nothing. What `signals` puts of lines stays, and so what `couple` puts of
--- answers: it put nothing if the outcome doesn't speak of standard input.
+-- F5: with this outcome the command put nothing. `signals` has no such outcome, and `couple` only outcomes
+-- that don't speak of standard input.
 abbrev pub HasPutNothing : Option Command → Outcome → Type 0
 HasPutNothing (Some (by calibration signals)) o = ⊥
 HasPutNothing (Some (by calibration (couple campaign name))) o = PutsNothing o × (role_in o ≢ Some role.Check)
@@ -80,7 +80,6 @@ AcceptsWork (couple campaign name) store =
     AcceptsCampaign campaign store (λ plans. AcceptsUndriven store (run_named name 1 plans))
 AcceptsWork _ store = Unit {0}
 
--- likewise of a command
 abbrev pub AcceptsAll : Command → Change ShownStore → Type 0
 AcceptsAll (by calibration work) store = FindsCalibration calibration store
     × AcceptsCalibration calibration store.before × AcceptsWork work store
@@ -96,12 +95,11 @@ HoldsLines (job.Signals cal) lines = HoldsRecording lines
 HoldsLines (job.Couple cal input) lines = HoldsWhole (couple_work (unit_of cal input)) lines
 HoldsLines _ lines = Unit {0}
 
--- no fault of writing is counted
 abbrev pub WritesWell : Change ShownSink → Type 0
 WritesWell out = ¬ Rose out.before.faults out.after.faults
 
--- Where the words ask for something, each file is found and accepted, the lines are what the job takes that
--- may come of the files, and no fault of writing is counted, the work is done, unless memory runs out.
+-- Claims 36 and 54: if the words ask for something, each file is found and accepted, the lines are what the
+-- job takes, and no fault of writing is counted, the work is done, unless memory runs out.
 abbrev pub Completes : Option Command → Change ShownStore → ShownLines → Change ShownSink → Outcome → Type 0
 Completes (Some command) store lines out o = AcceptsAll command store →
     ((one : Job) → Gathers command store (Ok one) → HoldsLines one lines) →

@@ -1,5 +1,5 @@
--- A command first reads all files that it needs, and accepts them: the calibration first, and then the files
--- of its work, in one order. What is to be done then is a job; or the call ends without one.
+-- What comes of the files of a command, which are read in the order of F4: a job, or how the call ends
+-- without one.
 use Rattle.std.specs.Prelude.{◌≡◌, ◌≤◌, length, All, Result, Ok}
 use Rattle.eg_base.specs.Outside.{ShownStore}
 use Rattle.eg_fault.specs.Faults.{IsNoneOrValid}
@@ -20,11 +20,11 @@ use Rattle.eg_app.specs.declared.job.Job.{Job}
 use Rattle.eg_app.specs.declared.job.Job.TheVariants as job
 use Rattle.eg_desk.specs.Words.{Command, by, soak, answers, asm, dis, Work, check, bound, limits, coverage, run, record_run, sweep, replay, signals, couple}
 
--- something comes, and this job is made of it; or the call ends without it
+-- something comes, and this job is made of it; or the call ends without a job
 abbrev pub Makes : {X : Type 0} → (X → Job) → (Result X Outcome → Type 0) → Result Job Outcome → Type 0
 Makes {X} of Comes come = (read : Result X Outcome) × Comes read × Then (λ x made. made ≡ Ok (of x)) read come
 
--- by this calibration: what the work reads comes
+-- F4, behind the calibration
 abbrev pub GathersBy : CalibrationParts → Work → Change ShownStore → Result Job Outcome → Type 0
 GathersBy cal (check file) store come =
     Makes (job.Check cal) (FileComes role.Check check_file file store) come
@@ -41,7 +41,7 @@ GathersBy cal signals store come = come ≡ Ok (job.Signals cal)
 GathersBy cal (couple campaign name) store come =
     Makes (job.Couple cal) (UndrivenComes campaign name store) come
 
--- what comes of a command
+-- F3, F4
 abbrev pub Gathers : Command → Change ShownStore → Result Job Outcome → Type 0
 Gathers (by calibration work) store come = (cal : Result CalibrationParts Outcome)
     × CalibrationComes calibration store cal × Then (λ parts made. GathersBy parts work store made) cal come

@@ -1,5 +1,5 @@
--- Where a command that plays runs ends Done, its runs are those that the files say, or that were drawn, their
--- text was written, and each of them keeps the headline.
+-- What a command that plays runs has told on Done (claim 1). Its runs are those that the files say, or that
+-- were drawn; their text was written; and each of them keeps the headline.
 use Rattle.std.specs.Prelude.{◌≡◌, ℕ, ◌+◌, List, [], ◌∷◌, map, reverse, All, Option, Some, None, Ok}
 use Rattle.eg_base.specs.Outside.{ShownStore, ShownSink, Appends}
 use Rattle.eg_answer.specs.Times.{reaction_of}
@@ -32,12 +32,12 @@ use Rattle.eg_stream.specs.Streams.{LeadTo}
 use Rattle.eg_stream.specs.Texts.{coupled_text}
 use Rattle.eg_desk.specs.Words.{Command, by, soak, run, record_run, sweep, couple}
 
--- this is the calibration that the command uses: that of the file behind `--cal`, or the reference
+-- F2
 abbrev pub Uses : Option (List ℕ) → ShownStore → CalibrationParts → Type 0
 Uses (Some name) store cal = ReadComes calibration_file name store (Ok cal)
 Uses None store cal = cal ≡ reference_parts
 
--- this is the input of run n: its plan, the drive that its trace tells, and the words of its image
+-- this is the input of run n: its plan, the drive that its trace says, and the words of its image
 pub record IsInput (store : ShownStore) (n : ℕ) (plan : RunPlan) (input : RunInput) : Type 0 where
   pub planned : input.plan ≡ plan
   pub driven : ReadComes (trace_file n) plan.trace store (Ok input.drive)
@@ -50,9 +50,8 @@ AreInputs store n (plan ∷ plans) (input ∷ inputs) =
     IsInput store n plan input × AreInputs store (n + 1) plans inputs
 AreInputs store n _ _ = ⊥
 
--- Of the runs of a campaign: the files say what the runs are, the report or the rows of these runs were
--- written, and each of them keeps the headline. What `table` tells of each keeps the limits of the
--- calibration, and what `table` and `margins` tell is what its rows show.
+-- Of `run`, `table` and `margins`. Besides, what `table` tells of each run keeps the limits of the
+-- calibration, and what `table` and `margins` tell is what the rows show.
 pub record TellsRuns (telling : Telling) (calibration : Option (List ℕ)) (campaign : List ℕ)
     (store : ShownStore) (out : Change ShownSink) : Type 0 where
   pub cal : CalibrationParts
@@ -66,7 +65,7 @@ pub record TellsRuns (telling : Telling) (calibration : Option (List ℕ)) (camp
   pub within_limits : All (TellsWithinLimits cal) inputs
   pub in_words : All (TellsInWords cal) inputs
 
--- The files say that this is the input of one run of a campaign: the first of this name.
+-- The files say that this is the input of the first run of this name.
 pub record IsNamedInput (campaign name : List ℕ) (store : ShownStore) (input : RunInput) : Type 0 where
   pub plans : List RunPlan
   pub n : ℕ
@@ -75,7 +74,7 @@ pub record IsNamedInput (campaign name : List ℕ) (store : ShownStore) (input :
   pub is_named : run_named name 1 plans ≡ Some (n, plan)
   pub files_say : IsInput store n plan input
 
--- Of the run of that name: its record was written, and keeps the headline.
+-- Of `record`.
 pub record TellsRecord (calibration : Option (List ℕ)) (campaign name : List ℕ) (store : ShownStore)
     (out : Change ShownSink) : Type 0 where
   pub cal : CalibrationParts
@@ -85,9 +84,7 @@ pub record TellsRecord (calibration : Option (List ℕ)) (campaign name : List �
   pub written : Appends out.before out.after (record_text cal input)
   pub headline : KeepsHeadline (run_with cal input)
 
--- Of the run of that name, without its resets, under a fault of each class at each `step`th tick: the table
--- of these runs was written, each of them keeps the headline, and under each class but lapses the greatest
--- reaction is at most the worst-case reaction.
+-- Of `sweep` (C91). Besides, the greatest reactions, but that of `lapse`, are at most R.
 pub record TellsSweep (calibration : Option (List ℕ)) (campaign name : List ℕ) (step : ℕ)
     (store : ShownStore) (out : Change ShownSink) : Type 0 where
   pub cal : CalibrationParts
@@ -98,12 +95,12 @@ pub record TellsSweep (calibration : Option (List ℕ)) (campaign name : List �
   pub headline : All KeepsHeadline (map (run_with cal) (runs_over step input))
   pub in_time : IsBounded (reaction_of cal.times) (table_over cal step input)
 
--- Of the `count` runs that are drawn from a seed: their summary was written, and each keeps the headline.
+-- Of `soak` (C93).
 pub record TellsSoak (seed count : ℕ) (out : Change ShownSink) : Type 0 where
   pub written : Appends out.before out.after (soak_text (soak_of (drawn_runs count seed)))
   pub headline : All KeepsHeadline (drawn_runs count seed)
 
--- The files say that this is the input of one run of a campaign, the first of this name, but for its drive.
+-- The files say that this is the input of the first run of this name, but for its drive.
 pub record IsUndrivenInput (campaign name : List ℕ) (store : ShownStore) (input : RunInput) : Type 0 where
   pub plans : List RunPlan
   pub n : ℕ
@@ -113,8 +110,8 @@ pub record IsUndrivenInput (campaign name : List ℕ) (store : ShownStore) (inpu
   pub planned : input.plan ≡ plan
   pub loaded : ReadComes (image_file n) plan.image store (Ok input.image)
 
--- Of the run of that name, around a partner's engine: these lines were taken, all that is said of them was
--- written, and the rows of their ticks keep the headline. (That they are all lines that came says `Ends`.)
+-- Of `couple` (C90): these lines were taken, and all that is said of them was written. (That they are all
+-- lines that came says `Ends`.)
 pub record TellsCoupled (calibration : Option (List ℕ)) (campaign name : List ℕ) (store : ShownStore)
     (out : Change ShownSink) : Type 0 where
   pub cal : CalibrationParts
@@ -127,7 +124,7 @@ pub record TellsCoupled (calibration : Option (List ℕ)) (campaign name : List 
   pub written : Appends out.before out.after (coupled_text (unit_of cal input) answers)
   pub headline : KeepsCoupledHeadline (unit_of cal input) answers
 
--- What a command that plays runs has told where its outcome is Done; of any other command nothing is said.
+-- of a command that plays no runs nothing is said
 abbrev pub TellsHeadline : Option Command → ShownStore → Change ShownSink → Type 0
 TellsHeadline (Some (by calibration (run telling campaign))) store out =
     TellsRuns telling calibration campaign store out

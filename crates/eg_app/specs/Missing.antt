@@ -1,6 +1,5 @@
--- Outside the headline. Over a sure store, how missing files are told: `Told` says of an outcome that the
--- call ended with it. That reading a file is told to fail only where the file is missing stands in `Ends`
--- (`FileComes`).
+-- Outside the headline. How missing files are told over a sure store. `Told` says of an outcome that the call
+-- ended with it. That reading fails only if the file is missing is said by `FileComes`, in `Ends`.
 use Rattle.std.specs.Prelude.{◌≡◌, ◌↔◌, ◌⊎◌, ℕ, List, Option, Some, None, option_map, IfSome, IsTrue, Result, Ok, Err}
 use Rattle.eg_base.specs.Outside.{ShownStore, IsMissing}
 use Rattle.eg_outcome.specs.Calibrations.{AcceptsCalibration, MissesCalibration}
@@ -11,29 +10,27 @@ use Rattle.eg_outcome.specs.declared.outcome.Role.TheVariants as role
 use Rattle.eg_desk.specs.Ends.{read_alone}
 use Rattle.eg_desk.specs.Words.{Command, by, soak, answers, asm, dis, Work, check, campaign_in}
 
--- what came is this end
 abbrev pub EndsBy : {X : Type 0} → Result X Outcome → Outcome → Type 0
 EndsBy (Ok x) end = ⊥
 EndsBy (Err e) end = e ≡ end
 
--- the file that work reads first, if any, by its role and name
+-- the file that the work reads first, if there is one, by its role and name
 abbrev pub own_file : Work → Option (Role × List ℕ)
 own_file (check file) = Some (role.Check, file)
 own_file work = option_map (λ campaign. (role.Campaign, campaign)) (campaign_in work)
 
--- the command reads no file
 abbrev pub ReadsNothing : Option Command → Type 0
 ReadsNothing (Some (by calibration work)) = (calibration ≡ None) × (own_file work ≡ None)
 ReadsNothing (Some (soak seed runs)) = Unit {0}
 ReadsNothing (Some _) = ⊥
 ReadsNothing None = Unit {0}
 
--- where the file that work reads first is missing, that is told
+-- if the file that the work reads first is missing, that is told
 abbrev pub TellsMissingOwn : Work → ShownStore → (Outcome → Type 0) → Type 0
 TellsMissingOwn work store Told = IsTrue store.sure →
     IfSome (own_file work) (λ own. IsMissing store.files own.1 → Told (outcome.ReadFault own.0))
 
--- Where a calibration is read before, that has to be there and be accepted, and memory may run out first.
+-- If a calibration is read before, it has to be there and be accepted, and memory may run out first.
 abbrev pub TellsMissingBehind : Option (List ℕ) → Work → ShownStore → (Outcome → Type 0) → Type 0
 TellsMissingBehind None work store Told = TellsMissingOwn work store Told
 TellsMissingBehind (Some name) work store Told =
@@ -41,7 +38,7 @@ TellsMissingBehind (Some name) work store Told =
     IfSome (own_file work)
     (λ own. IsMissing store.files own.1 → Told (outcome.ReadFault own.0) ⊎ Told outcome.Memory)
 
--- reading the file of this role is told to fail exactly where it is missing
+-- reading the file of this role is told to fail exactly if the file is missing
 abbrev pub TellsExactly : Role → (missing : Type 0) → ShownStore → (Outcome → Type 0) → Type 0
 TellsExactly file missing store Told = IsTrue store.sure → (Told (outcome.ReadFault file) ↔ missing)
 

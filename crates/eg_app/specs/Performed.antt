@@ -1,5 +1,5 @@
--- How a job ends, by cases on what is to be done: on Done its whole text was written. A job that takes no
--- lines ends Done, or by a fault of writing, or as memory ran out.
+-- How a job ends (F3), by cases on what is to be done. A job that takes no lines ends Done, by a fault of
+-- writing, or as memory ran out.
 use Rattle.std.specs.Prelude.{ℕ, Bool, true, false}
 use Rattle.eg_base.specs.Outside.{ShownSink}
 use Rattle.eg_lines.specs.Lines.{ShownLines}
@@ -21,12 +21,13 @@ use Rattle.eg_stream.specs.Recordings.{RecordingEnds, replay_work, signals_work}
 use Rattle.eg_app.specs.declared.job.Job.{Job}
 use Rattle.eg_app.specs.declared.job.Job.TheVariants as job
 
--- the runs that are drawn from the seed were played, and the summary on them was written: on Done all of it
+-- C93: the drawn runs were played, and their summary was written (on Done all of it)
 abbrev pub SoakEnds : (seed runs : ℕ) → Change ShownSink → Change TickCount → Outcome → Type 0
 SoakEnds seed runs out ticks o =
     Plays (soak_text (soak_of (drawn_runs runs seed))) (drawn_runs runs seed)
     (rows_of_runs (drawn_runs runs seed)) out ticks o
 
+-- F3
 abbrev pub Performs : Job → Change ShownLines → Change ShownSink → Change TickCount → Outcome → Type 0
 Performs (job.Check cal rows) lines out ticks o = Stays ticks × RowsEnd cal.rules rows out o
 Performs (job.Bound cal) lines out ticks o = Stays ticks × TellsLimits bound_text cal out o
@@ -44,14 +45,13 @@ Performs (job.Answers questions) lines out ticks o = Stays ticks × LineEnds (an
 Performs (job.Asm words) lines out ticks o = Stays ticks × LineEnds (image_text words) out o
 Performs (job.Dis words) lines out ticks o = Stays ticks × LineEnds (source_text words) out o
 
--- the job takes lines
 abbrev pub takes_lines : Job → Bool
 takes_lines (job.Replay cal) = true
 takes_lines (job.Signals cal) = true
 takes_lines (job.Couple cal input) = true
 takes_lines _ = false
 
--- with this outcome `replay` put nothing; what another job put stays
+-- F5: with this outcome `replay` put nothing; what another job put stays
 abbrev pub PutsNothingBy : Job → Outcome → Type 0
 PutsNothingBy (job.Replay cal) o = PutsNothing o
 PutsNothingBy _ o = ⊥

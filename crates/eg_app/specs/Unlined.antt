@@ -8,11 +8,11 @@ use Rattle.eg_outcome.specs.declared.outcome.Outcome.{Outcome}
 use Rattle.eg_app.specs.Ends.{Ends, call}
 use Rattle.eg_desk.specs.Words.{Command}
 
--- what a source shows that has no lines, and is sure
+-- what a sure source without lines shows
 abbrev pub no_lines : ShownLines
 no_lines = record { lines = Some []; faults = 0; sure = true }
 
--- it ends so over a source that has no lines, whatever that shows afterwards
+-- the command ends so over a source without lines, whatever the source shows afterwards
 abbrev pub EndsWithoutLines : Option Command → (nothing : Type 0) → Change ShownStore → Change ShownSink
     → Change TickCount → Outcome → Type 0
 EndsWithoutLines command nothing store out ticks o =

@@ -16,7 +16,7 @@ use Rattle.eg_asm.specs.Forms.{Form, form_named}
 use Rattle.eg_asm.specs.Grammar.{Value, Register, Number, Name, Distance, Item}
 use Rattle.eg_asm.specs.Grammar as item
 
--- what is kept of an instruction: the word without the target; the reach of its target and the target
+-- an instruction without its target: its word, and the reach of the target with the target
 pub record Encoded : Type 0 where
   pub word : ℕ
   pub jump : Option (ℕ × Value)
@@ -26,25 +26,21 @@ unfoldable pub capped : ℤ → ℤ
 capped (pos n) = pos (min 65536 n)
 capped (negsuc n) = negsuc (min 65535 n)
 
--- a target, its distance cut likewise
 unfoldable pub capped_target : Value → Value
 capped_target (Distance d) = Distance (capped d)
 capped_target value = value
 
--- what is kept with one operand more
 unfoldable pub with_operand : Encoded → Operand → Value → Encoded
 with_operand kept (operand.Register weight) (Register n) = record kept { word = kept.word + n * weight }
 with_operand kept (operand.Number most) (Number n) = record kept { word = kept.word + n }
 with_operand kept (operand.Target reach) value = record kept { jump = Some (reach, capped_target value) }
 with_operand kept _ _ = kept
 
--- what is kept with some operands more
 unfoldable pub with_operands : Encoded → List Operand → List Value → Encoded
 with_operands kept (operand ∷ operands) (value ∷ values) =
     with_operands (with_operand kept operand value) operands values
 with_operands kept _ _ = kept
 
--- what is kept of an instruction of a form
 abbrev pub encoded : Form → List Value → Encoded
 encoded form values = with_operands (record { word = form.base; jump = None }) form.operands values
 
@@ -65,13 +61,11 @@ instruction_shown i = record { word = i.word; jump = option_map jump_shown i.jum
 
 -- ---- what lines tell ----
 
--- what a line tells: no word, a label, or an instruction
 pub data Told : Type 0 where
   Nothing : Told
   Label : List ℕ → Told
   Instruction : Encoded → Told
 
--- what an item tells
 unfoldable pub told : Item → Told
 told item.Nothing = Nothing
 told (item.Comment bytes) = Nothing
@@ -79,7 +73,7 @@ told (item.Label name) = Label name
 told (item.Instruction mnemonic values) =
     option_map_or (λ form. Instruction (encoded form values)) (form_named mnemonic) Nothing
 
--- what a line tells, where there is room for it behind this many words
+-- what a line tells, if there is room for it behind this many words
 unfoldable pub told_with_room : ℕ → Told → Option Told
 told_with_room words (Instruction e) = if words == MOST_WORDS then None else Some (Instruction e)
 told_with_room words tells = Some tells

@@ -1,11 +1,11 @@
--- A form of instructions has a name, a word with 0 in each operand, and the kinds of its operands; there are
--- eighteen, and any word is of the last. Assembling and disassembling both use this table.
+-- The forms of instructions (F25, F43). There are eighteen, and any word is of the last. Assembling and
+-- disassembling both use this table.
 use Rattle.std.specs.Prelude.{ℕ, List, [], ◌∷◌, codes, Option, find}
 use Rattle.std.specs.Str.{bytes_eq}
 use Rattle.eg_asm.specs.declared.operand.Operand.{Operand}
 use Rattle.eg_asm.specs.declared.operand.Operand.TheVariants.{Register, Number, Target}
 
--- a form of instructions: its name, its word with 0 in each operand, and its operands as they are written
+-- a name, the word with 0 in each operand, and the operands in the order in which they are written
 pub record Form : Type 0 where
   pub mnemonic : List ℕ
   pub base : ℕ
@@ -14,7 +14,7 @@ pub record Form : Type 0 where
 abbrev pub form : List ℕ → ℕ → List Operand → Form
 form mnemonic base operands = record { mnemonic = mnemonic; base = base; operands = operands }
 
--- registers in their three places: bits 11 to 9, 8 to 6 and 5 to 3
+-- F43: bits 11 to 9, 8 to 6 and 5 to 3
 abbrev pub rA : Operand
 rA = Register 512
 
@@ -24,10 +24,11 @@ rB = Register 64
 abbrev pub rC : Operand
 rC = Register 8
 
--- the last form: any word is of it
+-- F25, `word n16`
 abbrev pub word_form : Form
 word_form = form (codes "word") 0x0000 (Number 65535 ∷ [])
 
+-- F25, F43
 unfoldable pub forms : List Form
 forms =
     form (codes "nop") 0x0000 [] ∷
@@ -49,6 +50,5 @@ forms =
     form (codes "jr") 0xf001 (rA ∷ []) ∷
     word_form ∷ []
 
--- the form of this name
 unfoldable pub form_named : List ℕ → Option Form
 form_named mnemonic = find (λ f. bytes_eq f.mnemonic mnemonic) forms

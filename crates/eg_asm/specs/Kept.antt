@@ -25,19 +25,19 @@ instructions_from number [] = []
 instructions_from number (item ∷ items) =
     cons_option (numbered number (told item)) (instructions_from (number + 1) items)
 
--- whether an item is a label that stands before it
+-- F27: an item repeats an earlier label
 unfoldable pub is_repeat : List Item → Item → Bool
 is_repeat before (Label name) = is_some (address_of (labels_of before) name)
 is_repeat before _ = false
 
--- the number of the first of these items that is a repeat, where other items stand before them
+-- the number of the first of these items that is a repeat; other items stand before them
 unfoldable pub repeat_behind : List Item → List Item → Option ℕ
 repeat_behind before [] = None
 repeat_behind before (item ∷ items) =
     if is_repeat before item then Some (length before + 1) else repeat_behind (before ++ item ∷ []) items
 
--- What is kept of items: the instructions, where the labels are, and the number of the line of the first
--- that is repeated. Labels are looked up by keys that have a name.
+-- What is kept of items: the instructions, where the labels are, and the line of the first repeated label.
+-- Labels are looked up by keys that have a name.
 pub record Keeps {K : Type 0} (name_of : K → List ℕ) (items : List Item) (instructions : List (ℕ × Encoded))
     (address : K → Option ℕ) (repeated : Option ℕ) : Type 0 where
   pub all : instructions ≡ instructions_from 1 items
@@ -45,7 +45,6 @@ pub record Keeps {K : Type 0} (name_of : K → List ℕ) (items : List Item) (in
   pub labels : (key : K) → address key ≡ address_of (labels_of items) (name_of key)
   pub repeat : repeated ≡ repeat_behind [] items
 
--- an instruction is one of a form
 unfoldable pub HasForm : Item → Type 0
 HasForm (Instruction mnemonic values) = IsSome (form_named mnemonic)
 HasForm _ = Unit {0}
@@ -61,14 +60,14 @@ HoldsItems source items =
     Keeps (λ (name : Bor (List ℕ)). name.now) items (map placed_shown source.instructions.items)
     (get (λ x y. bytes_eq x.now y.now) source.labels) source.repeated
 
--- Where the old source holds what is kept of some items, the new one holds what is kept of these and of one
+-- If the old source holds what is kept of some items, the new source holds what is kept of these and of one
 -- more, whose line has this number and tells this.
 abbrev pub Adds : ℕ → Told → Source → Source → Type 0
 Adds line tells old new =
     (items : List Item) (item : Item) → HasForm item → told item ≡ tells → line ≡ length items + 1
     → HoldsItems old items → HoldsItems new (items ++ item ∷ [])
 
--- Where the old source holds what is kept of some items, the new one holds what is kept of these and of the
+-- If the old source holds what is kept of some items, the new source holds what is kept of these and of the
 -- item that the line of this number says.
 abbrev pub ReadsMore : ℕ → List ℕ → Source → Source → Type 0
 ReadsMore number line old new =

@@ -10,36 +10,33 @@ use Rattle.eg_asm.specs.Grammar.{Value}
 use Rattle.eg_asm.specs.Words.{Labels, address_of, complement_of, distance_to}
 use Rattle.eg_asm.specs.Encodings.{Encoded}
 
--- what a target adds to its word at this address, where it is there and in range
+-- what a target adds to its word at this address, if it is there and in range
 unfoldable pub jump_field : Labels → ℕ → Option (ℕ × Value) → Option ℕ
 jump_field labels address None = Some 0
 jump_field labels address (Some (reach, target)) =
     option_and_then (complement_of reach) (distance_to labels address target)
 
--- the word of what is kept of an instruction at this address
 unfoldable pub completed : Labels → ℕ → Encoded → Option ℕ
 completed labels address e = option_map (λ field. e.word + field) (jump_field labels address e.jump)
 
--- the line of the first instruction from this address on that has no word, since its target is missing or out
--- of range
+-- the line of the first instruction from this address on whose target is missing or out of range
 unfoldable pub unresolved : Labels → ℕ → List (ℕ × Encoded) → Option ℕ
 unresolved labels address [] = None
 unresolved labels address (i ∷ is) =
     if is_some (completed labels address i.1) then unresolved labels (address + 1) is else Some i.0
 
--- the words of the instructions from this address on
 unfoldable pub completed_words : Labels → ℕ → List (ℕ × Encoded) → List ℕ
 completed_words labels address [] = []
 completed_words labels address (i ∷ is) =
     cons_option (completed labels address i.1) (completed_words labels (address + 1) is)
 
--- the lower of two numbers of lines, or the one that is there
+-- the lower of two numbers of lines, or the only one
 unfoldable pub earlier : Option ℕ → Option ℕ → Option ℕ
 earlier None other = other
 earlier (Some number) None = Some number
 earlier (Some number) (Some other) = Some (min number other)
 
--- the words of what is kept, or the first line at fault
+-- F27, Label: the words of what is kept, or the first line at fault
 unfoldable pub words_unless : List ℕ → Option ℕ → Result (List ℕ) AsmFault
 words_unless words None = Ok words
 words_unless words (Some number) = Err (fault.Label number)

@@ -1,4 +1,4 @@
--- Outside the headline. What the instructions of a source mean to the machine.
+-- Outside the headline. What the instructions of a source mean to the machine (F28, F43).
 use Rattle.std.specs.Prelude.{◌≡◌, ℕ, ℤ, List, [], ◌∷◌, codes, Some}
 use Rattle.eg_word.specs.declared.instruction.Instruction.{Instruction}
 use Rattle.eg_word.specs.declared.instruction.Instruction.TheVariants as machine
@@ -15,8 +15,8 @@ of_three a b c = Register a ∷ Register b ∷ Register c ∷ []
 abbrev pub of_two : (a b n : ℕ) → List Value
 of_two a b n = Register a ∷ Register b ∷ Number n ∷ []
 
--- The instruction that a name and its operands mean, where it stands at this address among these labels.
--- `word` means none: it writes any word.
+-- F28: the machine's instruction that a name and its operands mean at this address among these labels. `word`
+-- means none, since it writes any word.
 pub data Means (labels : Labels) (address : ℕ) : List ℕ → List Value → Instruction → Type 0 where
   nop : Means labels address (codes "nop") [] machine.Nop
   ldi : (a n : ℕ) → Means labels address (codes "ldi") (of_number a n) (machine.Ldi a n)

@@ -2,7 +2,6 @@
 use Rattle.std.specs.Prelude.{ℕ, ◌-◌, ◌*◌, Option, Some, None}
 use Rattle.eg_asm.specs.declared.encoding.Jump.{Jump}
 
--- the most that a target adds to its word
 abbrev pub room_of : Option Jump → ℕ
 room_of None = 0
 room_of (Some jump) = 2 * jump.reach - 1

@@ -2,6 +2,5 @@
 use Rattle.eg_asm.specs.declared.form.FormRow.{FormRow}
 use Rattle.eg_asm.specs.Forms.{Form, form}
 
--- the form that a row of the code's table says
 abbrev pub form_in : FormRow → Form
 form_in row = form row.mnemonic.now row.base row.operands.now

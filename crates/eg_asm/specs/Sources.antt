@@ -1,5 +1,4 @@
--- A source is lines of the grammar, of at most 1,024 instructions, and gives their words; or it is refused
--- for the first line that may not come, or else for a label.
+-- What `asm` makes of a source (F25 to F27): its words, or the first refusal.
 use Rattle.std.specs.Prelude.{◌≡◌, ◌≢◌, ℕ, ◌+◌, ◌<◌, ◌≤◌, List, [], ◌++◌, length, Some, None, Result, Ok, Err}
 use Rattle.eg_input.specs.declared.image.TheConstants.{MOST_WORDS}
 use Rattle.eg_asm.specs.declared.fault.AsmFault.{AsmFault}
@@ -7,7 +6,7 @@ use Rattle.eg_asm.specs.declared.fault.AsmFault.TheVariants as fault
 use Rattle.eg_asm.specs.Grammar.{Item, IsLineOf, IsTextOf}
 use Rattle.eg_asm.specs.Words.{size, word_count, item_words, first_fault}
 
--- the source is lines without fault, of at most 1,024 instructions, which have these words
+-- F25, F26: the source has no fault, and these words
 pub record IsSourceOf (source words : List ℕ) : Type 0 where
   pub items : List Item
   pub text : IsTextOf source items
@@ -21,8 +20,7 @@ pub record GoesWrong (may_come : Item → Type 0) (text : List ℕ) : Type 0 whe
   pub wrong : (line rest : List ℕ) (item : Item) → text ≡ line ++ rest → IsLineOf line item
       → may_come item → ⊥
 
--- The source begins with lines of the grammar, of fewer than 1,024 instructions, and the line that comes
--- then, of this number, isn't of the grammar.
+-- F27, Line
 pub record HasBadLineAt (source : List ℕ) (number : ℕ) : Type 0 where
   pub good : List Item
   pub front : List ℕ
@@ -33,8 +31,7 @@ pub record HasBadLineAt (source : List ℕ) (number : ℕ) : Type 0 where
   pub bad : GoesWrong (λ item. Unit {0}) rest
   pub at : number ≡ length good + 1
 
--- the source begins with lines of the grammar, of 1,024 instructions, and then comes no empty line, comment
--- or label
+-- F27, Long
 pub record IsTooLong (source : List ℕ) : Type 0 where
   pub good : List Item
   pub front : List ℕ
@@ -44,15 +41,14 @@ pub record IsTooLong (source : List ℕ) : Type 0 where
   pub full : word_count good ≡ MOST_WORDS
   pub bad : GoesWrong (λ item. size item ≡ 0) rest
 
--- the source is lines of the grammar, of at most 1,024 instructions, and the first line at fault has this
--- number
+-- F27, Label
 pub record HasBadLabelAt (source : List ℕ) (number : ℕ) : Type 0 where
   pub items : List Item
   pub text : IsTextOf source items
   pub most : word_count items ≤ MOST_WORDS
   pub at : first_fault items ≡ Some number
 
--- what assembling a source gives, where memory doesn't run out
+-- F25, F27, if memory doesn't run out
 abbrev pub Assembles : List ℕ → Result (List ℕ) AsmFault → Type 0
 Assembles source (Ok words) = IsSourceOf source words
 Assembles source (Err fault.Memory) = ⊥

@@ -10,6 +10,5 @@ is_usable (Register weight) = nat_lt 0 weight
 is_usable (Number most) = true
 is_usable (Target reach) = nat_lt 0 reach
 
--- at most three operands, each of them usable
 abbrev pub are_usable : List Operand → Bool
 are_usable operands = nat_le (length operands) 3 && list_all is_usable operands

@@ -10,7 +10,6 @@ use Rattle.eg_base.specs.Fakes.{StoreState, SureStoreState}
 abbrev pub files_code : Coded Files
 files_code = code (coded_list coded_ℕ) (coded_list coded_ℕ)
 
--- a state is written as the tuple of its parts
 abbrev pub store_code : Coded StoreState
 store_code =
     code_by (Files × (List ℕ × (ℕ × ℕ)))
@@ -19,7 +18,6 @@ store_code =
     (λ t. record { files = t.0; failing = t.1.0; reads = t.1.1.0; faults = t.1.1.1 })
     (λ _. refl)
 
--- a state is written as the pair of its parts
 abbrev pub sure_store_code : Coded SureStoreState
 sure_store_code =
     code_by (Files × ℕ) (coded× files_code coded_ℕ) (λ s. (s.files, s.faults))

@@ -1,6 +1,5 @@
 -- Outside the headline. Counts that stop at the last value of a u64.
 use Rattle.std.specs.Prelude.{ℕ, ◌+◌, ◌-◌, ◌^◌, min}
 
--- one more, but no more than the last value
 abbrev pub next_count : ℕ → ℕ
 next_count count = min (count + 1) (2 ^ 64 - 1)

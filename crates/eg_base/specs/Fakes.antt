@@ -6,7 +6,6 @@ use Rattle.std.specs.FinMap.{get}
 use Rattle.eg_base.specs.Counts.{next_count}
 use Rattle.eg_base.specs.Outside.{Files}
 
--- the number is one of these
 abbrev pub is_listed : List ℕ → ℕ → Bool
 is_listed numbers number = list_any (λ listed. listed == number) numbers
 
@@ -30,19 +29,19 @@ pub record StoreState : Type 0 where
 abbrev pub read_fails : StoreState → List ℕ → Bool
 read_fails store name = is_listed store.failing store.reads || is_none (get store.files name)
 
--- the store after a read of that name: one read more, and where it failed the count of faults rises
+-- the store after a read of that name; if the read failed, the count of faults rises
 abbrev pub after_read : StoreState → List ℕ → StoreState
 after_read store name = record store {
   reads = next_count store.reads;
   faults = if read_fails store name then next_count store.faults else store.faults;
 }
 
--- a store whose reads fail only where there is no such file: its files, and how many faults were met
+-- a store whose reads fail only if there is no such file: its files, and how many faults were met
 pub record SureStoreState : Type 0 where
   pub files : Files
   pub faults : ℕ
 
--- the store after a read of that name: where there is no such file, the count of faults rises
+-- the store after a read of that name; if there is no such file, the count of faults rises
 abbrev pub after_sure_read : SureStoreState → List ℕ → SureStoreState
 after_sure_read store name = record store {
   faults = if is_none (get store.files name) then next_count store.faults else store.faults;
@@ -66,7 +65,7 @@ put_fails sink = is_listed sink.failing sink.puts
 abbrev pub after_put : SinkState → List ℕ → SinkState
 after_put sink bytes = record sink { bytes = sink.bytes ++ bytes; puts = next_count sink.puts }
 
--- the output after a put of these bytes that failed: the first half of them was appended
+-- the output after a failed put of these bytes: the first half of them was appended
 abbrev pub after_failed_put : SinkState → List ℕ → SinkState
 after_failed_put sink bytes = record sink {
   bytes = sink.bytes ++ take (length bytes / 2) bytes;

@@ -8,6 +8,6 @@ pub record OpenerState (O : Type 0) : Type 0 where
   pub opener : O
   pub faults : ℕ
 
--- where the files are told, the file of that name was opened: its bytes are left to read
+-- if the files are told, the file of that name was opened, and these bytes are left to read
 abbrev pub IsOpened : Option Files → List ℕ → Option (List ℕ) → Type 0
 IsOpened files name left = IfSome files (λ m. (get m name ≡ left) × IsSome left)

@@ -1,6 +1,5 @@
--- A store shows its files, and an output the bytes that were written, each where they are told, with how many
--- faults were met and whether it is sure. A contract sees a store or an output, which lie outside the
--- program, by what it shows at a moment, and says how a call changes that.
+-- What contracts see of a store and of an output, which lie outside the program: what they show at a moment,
+-- and how a call changes that.
 use Rattle.std.specs.Prelude.{◌≡◌, ℕ, ◌+◌, ◌-◌, ◌^◌, ◌≤◌, min, List, ◌++◌, length, take, Bool, Option, option_map, IfSome, IsSomeAnd, IsNone}
 use Rattle.std.specs.Ordering.{nat_cmp}
 use Rattle.std.specs.Cmp.Lexicographic.{slice_cmp}
@@ -10,15 +9,15 @@ use Rattle.std.specs.FinMap.{FinMap, get}
 abbrev pub Files : Type 0
 Files = FinMap (slice_cmp nat_cmp) (List ℕ)
 
--- what a store shows: its files, where contracts are told of them; how many faults of reading it has met; and
--- whether it is sure, so that reading fails only where there is no such file
+-- the files, if contracts are told of them; how many faults of reading were met; and whether the store is
+-- sure, so that reading fails only if there is no such file
 pub record ShownStore : Type 0 where
   pub files : Option Files
   pub faults : ℕ
   pub sure : Bool
 
--- what an output shows: what was written, where contracts are told of it; how many faults of writing it has
--- met; and whether it is sure, so that writing takes no memory
+-- what was written, if contracts are told of it; how many faults of writing were met; and whether the output
+-- is sure, so that writing takes no memory
 pub record ShownSink : Type 0 where
   pub written : Option (List ℕ)
   pub faults : ℕ
@@ -30,8 +29,8 @@ Rose before now = min (before + 1) (2 ^ 64 - 1) ≤ now
 
 -- ---- files ----
 
--- the bytes are at most `most`; and where the files are told, they are the first `most` bytes of the file of
--- that name, or all of it where it is shorter
+-- the bytes are at most `most`; and if the files are told, they are the first `most` bytes of the file of
+-- that name, or all of a shorter file
 abbrev pub AreFirstBytes : Option Files → List ℕ → ℕ → List ℕ → Type 0
 AreFirstBytes files name most bytes =
     (length bytes ≤ most) × IfSome files (λ m. IsSomeAnd (get m name) (λ file. bytes ≡ take most file))
@@ -40,7 +39,6 @@ AreFirstBytes files name most bytes =
 abbrev pub Reads : Option Files → List ℕ → ℕ → List ℕ → List ℕ → Type 0
 Reads files name most old new = (bytes : List ℕ) × (new ≡ old ++ bytes) × AreFirstBytes files name most bytes
 
--- the new bytes begin with the old ones
 abbrev pub BeginsWith : List ℕ → List ℕ → Type 0
 BeginsWith old new = (more : List ℕ) × (new ≡ old ++ more)
 

@@ -9,8 +9,7 @@ pub record StreamState (W : Type 0) : Type 0 where
   pub is_told : Bool
   pub faults : ℕ
 
--- what an output over a stream shows: the bytes of the stream, where they are told, and its faults; the
--- output is sure
+-- the bytes of the stream, if they are told, and its faults; the output is sure
 abbrev pub shown_by : {W : Type 0} → (contents : W → Option (List ℕ)) → StreamState W → ShownSink
 shown_by contents state = record {
   written = if state.is_told then contents state.stream else None;
@@ -18,6 +17,6 @@ shown_by contents state = record {
   sure = true;
 }
 
--- where the stream tells its bytes, they grew by a prefix of these
+-- if the stream tells its bytes, they grew by a prefix of these
 abbrev pub TakesPrefix : Option (List ℕ) → Option (List ℕ) → List ℕ → Type 0
 TakesPrefix old new bytes = (prefix rest : List ℕ) × (bytes ≡ prefix ++ rest) × Appends old new prefix

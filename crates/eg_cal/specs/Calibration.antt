@@ -1,5 +1,4 @@
--- A calibration file says the calibration under its keys, or its first refusal: of the keys in their order,
--- other names, the values together, and last the answers.
+-- What a calibration file says under its keys (F20), or its first refusal (F21).
 use Rattle.std.specs.Prelude.{ℕ, zero, suc, ◌-◌, ◌==◌, ◌&&◌, Bool, not, nat_le, nat_lt, is_some, [], ◌∷◌, List, length, Option, Some, None, option_map, if◌then◌else◌, Result, Err}
 use Rattle.toml.specs.Data.{Members}
 use Rattle.eg_num.specs.Windows.{WeightParts}
@@ -24,7 +23,6 @@ use Rattle.eg_cal.specs.Names.{is_all_known}
 
 -- ---- the values under the keys
 
--- the weights under three keys
 abbrev pub weights_of : Members → CalKey → CalKey → CalKey → WeightParts
 weights_of ms up down limit = record {
   up = number_of ms up;
@@ -32,7 +30,6 @@ weights_of ms up down limit = record {
   limit = number_of ms limit;
 }
 
--- the permit table
 abbrev pub permit_of : Members → Grid
 permit_of ms = record {
   rows = points_of ms PermitPedal;
@@ -40,20 +37,18 @@ permit_of ms = record {
   values = values_of ms PermitTable;
 }
 
--- the weights of the torque
 abbrev pub torque_weights_of : Members → WeightParts
 torque_weights_of ms = weights_of ms TorqueUp TorqueDown TorqueLimit
 
--- the tolerances of pedal, plate, load and speed, in this order
+-- in this order
 abbrev pub tolerances_of : Members → List ℕ
 tolerances_of ms =
     number_of ms PairsPedal ∷ number_of ms PairsPlate ∷ number_of ms PairsLoad ∷ number_of ms PairsSpeed ∷ []
 
--- the weights of the pairs
 abbrev pub pair_weights_of : Members → WeightParts
 pair_weights_of ms = weights_of ms PairsUp PairsDown PairsLimit
 
--- the data of the plant, with this torque of a load of 1000
+-- `kt` is the torque of a load of 1000
 abbrev pub plant_of : Members → ℕ → PlantParts
 plant_of ms kt = record {
   slew = number_of ms PlantSlew;
@@ -62,7 +57,6 @@ plant_of ms kt = record {
   kt = kt;
 }
 
--- the times of the answers, and the weights of the verdicts
 abbrev pub times_of : Members → TimeParts
 times_of ms = record {
   period = number_of ms AnswersPeriod;
@@ -72,12 +66,10 @@ times_of ms = record {
   weights = weights_of ms AnswersUp AnswersDown AnswersLimit;
 }
 
--- by how much the permitted torque may fall in a tick: as the file says, where its version has a key for
--- that, and else there is no ramp
+-- F20: before version 3 there is no ramp
 abbrev pub fall_of : Members → ℕ
 fall_of ms = if has_fall (version_of ms) then number_of ms PermitFall else NO_RAMP
 
--- the rules of level 2
 abbrev pub rules_of : Members → Rules
 rules_of ms = record {
   permit = permit_of ms;
@@ -89,11 +81,11 @@ rules_of ms = record {
   torque = torque_weights_of ms;
 }
 
--- whether the brake counts: as the file says, where its version has a key for that, and else it doesn't
+-- F20: in version 1 the brake doesn't count
 abbrev pub brake_of : Members → Bool
 brake_of ms = has_brake (version_of ms) && truth_of ms PermitBrake
 
--- the whole calibration: plant and rules have one torque of a load of 1000
+-- C74: plant and rules have the same `kt`
 abbrev pub parts_of : Members → CalibrationParts
 parts_of ms = record {
   rules = rules_of ms;
@@ -110,60 +102,57 @@ unfoldable pub first_from : (ℕ → Bool) → ℕ → ℕ → Option ℕ
 first_from passes zero from = None
 first_from passes (suc more) from = if passes from then Some from else first_from passes more (suc from)
 
--- row i of a table has a value below the row before it
+-- C4: row i of a table has a value below that of the row before it
 abbrev pub falls : Grid → ℕ → Bool
 falls g i = is_some (first_from (λ j. nat_lt (cell g i j) (cell g (i - 1) j)) (length g.columns) 0)
 
--- the first such row
 abbrev pub falling_row : Grid → Option ℕ
 falling_row g = first_from (falls g) (length g.rows - 1) 1
 
--- first <= send <= last < period
+-- C33
 abbrev pub is_window : TimeParts → Bool
 is_window t = nat_le t.first t.send && nat_le t.send t.last && nat_lt t.last t.period
 
--- question i has another answer than the fold of its row
+-- C31: question i has another answer than the fold of its row
 abbrev pub is_wrong : Rules → List QuestionParts → ℕ → Bool
 is_wrong rules asked i = not ((question_at asked i).answer == expected_of rules (question_at asked i).row)
 
--- the first such question
 abbrev pub wrong_answer : Rules → List QuestionParts → Option ℕ
 wrong_answer rules asked = first_from (is_wrong rules asked) (length asked) 0
 
--- the refusal of a permit table with a row that falls
+-- F21, Rising
 abbrev pub rising_fault : Grid → Option CalFault
 rising_fault g = option_map fault.Rising (falling_row g)
 
--- the refusal of times whose window is out of order
+-- F21, Window
 abbrev pub window_fault : TimeParts → Option CalFault
 window_fault t = if is_window t then None else Some fault.Window
 
--- the first refusal of these: the permit table, then the times
+-- F21, Rising and Window
 abbrev pub parts_fault : CalibrationParts → Option CalFault
 parts_fault p = or_else (rising_fault p.rules.permit) (window_fault p.times)
 
--- the refusal of a calibration one of whose questions has a wrong answer
+-- F21, Answer
 abbrev pub answer_fault : CalibrationParts → Option CalFault
 answer_fault p = option_map fault.Answer (wrong_answer p.rules p.questions)
 
 -- ---- the file
 
--- the refusal of a file with a name at the top or in a table that its version doesn't have
+-- F21, Key unknown
 abbrev pub unknown_fault : Members → Option CalFault
 unknown_fault ms = if is_all_known (version_of ms) ms then None else Some (fault.Key Unknown)
 
--- the first refusal but for wrong answers: of the keys of the file's version in their order, then of other
--- names, then of the values together
+-- F21 but Answer
 abbrev pub unanswered_refusal_of : Members → Option CalFault
 unanswered_refusal_of ms =
     or_else (keys_fault ms (all_keys (version_of ms)))
     (or_else (unknown_fault ms) (parts_fault (parts_of ms)))
 
--- the first refusal: the answers come last of all
+-- F21
 abbrev pub refusal_of : Members → Option CalFault
 refusal_of ms = or_else (unanswered_refusal_of ms) (answer_fault (parts_of ms))
 
--- the calibration of a document, or its first refusal
+-- F20, F21
 abbrev pub calibration_of : Option Members → Result CalibrationParts CalFault
 calibration_of None = Err fault.Text
 calibration_of (Some ms) = unless (refusal_of ms) (parts_of ms)

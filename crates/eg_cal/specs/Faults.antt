@@ -4,7 +4,6 @@ use Rattle.eg_cal.specs.declared.key.CalFault.TheVariants as fault
 use Rattle.eg_toml.specs.declared.reading.DocumentFault.{DocumentFault}
 use Rattle.eg_toml.specs.declared.reading.DocumentFault.TheVariants.{Memory, Text}
 
--- the fault of bytes that give no document
 abbrev pub fault_of : DocumentFault → CalFault
 fault_of Memory = fault.Memory
 fault_of Text = fault.Text

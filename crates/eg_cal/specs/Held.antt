@@ -1,5 +1,5 @@
--- Outside the headline. What a key of a calibration file may hold, in the words of TOML, and which version
--- has it.
+-- Outside the headline. What a key of a calibration file may hold (F20), in the words of TOML, and which
+-- version has it.
 use Rattle.std.specs.Prelude.{◌≤◌, ℕ, All, Option, IsSome}
 use Rattle.std.specs.Bool.{⊤}
 use Rattle.toml.specs.Data.{Data, boolean, Members}
@@ -23,7 +23,6 @@ abbrev pub IsRowArray : ℕ → ℕ → ℕ → Option Data → Type 0
 IsRowArray tall wide high o =
     HoldsValue (array_of (array_of natural)) (AreMany tall tall (AreMany wide wide (λ n. n ≤ high))) o
 
--- what stands under a key is what that content is
 abbrev pub Holds : Content → Members → CalKey → Type 0
 Holds (number low high) ms key = HoldsValue natural (IsBetween low high) (value_of ms key)
 Holds truth ms key = HoldsValue boolean (λ b. ⊤) (value_of ms key)
@@ -34,12 +33,10 @@ Holds (grid down across high) ms key =
 Holds questions ms key = IsSome (read_questions ms key)
 Holds nothing ms key = ⊤
 
--- what stands under a key is what the table of keys says
 abbrev pub IsHeld : Members → CalKey → Type 0
 IsHeld ms key = Holds (content_of key) ms key
 
--- a version of the format has this key: `permit.brake` came with version 2, `permit.fall` with version 3, and
--- all others are of each
+-- F20: a version of the format has this key
 abbrev pub IsKeyOf : ℕ → CalKey → Type 0
 IsKeyOf version PermitBrake = 2 ≤ version
 IsKeyOf version PermitFall = 3 ≤ version

@@ -1,13 +1,11 @@
--- Each key of a calibration file stands at the top or in one of five tables, and may hold what this table
--- says; the key of the brake came with version 2, and that of the ramp with version 3. The keys are checked
--- in the order in which they stand here.
+-- The keys of a calibration file and what they may hold (F20). They are checked in the order in which they
+-- stand here (F21).
 use Rattle.std.specs.Prelude.{ℕ, nat_le, Bool, List, [], ◌∷◌, ◌++◌, codes, if◌then◌else◌}
 use Rattle.eg_cal.specs.declared.key.CalKey.{CalKey}
 use Rattle.eg_cal.specs.declared.key.CalKey.TheVariants.{Version, PermitPedal, PermitSpeed, PermitTable, PermitThreshold, PermitBrake, PermitFall, TorqueKt, TorqueUp, TorqueDown, TorqueLimit, PairsPedal, PairsPlate, PairsLoad, PairsSpeed, PairsUp, PairsDown, PairsLimit, PlantSlew, PlantFill, PlantAngle, PlantCharge, AnswersPeriod, AnswersFirst, AnswersLast, AnswersSend, AnswersUp, AnswersDown, AnswersLimit, Question, Unknown}
 
--- What a key may hold. A number is a TOML integer, and a truth value a TOML boolean. An axis has 2 to 16
--- strictly rising numbers. The values of an axis are as many numbers as it has points. A grid has a row for
--- each point of its first axis, and each row has a number for each point of the second.
+-- F20. The values of an axis are as many numbers as it has points. A grid has a row for each point of its
+-- first axis, and each row has a number for each point of the second.
 pub data Content : Type 0 where
   number : ℕ → ℕ → Content  -- from .. to ..
   truth : Content
@@ -17,20 +15,19 @@ pub data Content : Type 0 where
   questions : Content  -- 2 to 64 questions
   nothing : Content
 
--- the name of the table that a key stands in, empty at the top; its own name there; and what it holds
+-- the table in which a key stands, empty at the top; its own name there; and what it holds
 pub record Entry : Type 0 where
   pub table : List ℕ
   pub name : List ℕ
   pub content : Content
 
--- a key at the top, and one in a table
 abbrev at_top : List ℕ → Content → Entry
 at_top name content = record { table = []; name = name; content = content }
 
 abbrev in_table : List ℕ → List ℕ → Content → Entry
 in_table table name content = record { table = table; name = name; content = content }
 
--- the table of keys (docs/FORMATS.md, "Calibration files")
+-- F20
 abbrev pub entry_of : CalKey → Entry
 entry_of Version = at_top (codes "version") (number 1 3)
 entry_of PermitPedal = in_table (codes "permit") (codes "pedal") (axis 1000)
@@ -64,15 +61,15 @@ entry_of AnswersLimit = in_table (codes "answers") (codes "limit") (number 1 100
 entry_of Question = at_top (codes "question") questions
 entry_of Unknown = at_top (codes "unknown") nothing
 
--- whether files of this version say if the brake counts: those from version 2 on do
+-- F20: from version 2 on
 abbrev pub has_brake : ℕ → Bool
 has_brake version = nat_le 2 version
 
--- whether they say by how much the permitted torque may fall in a tick: those from version 3 on do
+-- F20: from version 3 on
 abbrev pub has_fall : ℕ → Bool
 has_fall version = nat_le 3 version
 
--- the keys, in the order in which they are checked, those of each table together
+-- F20, in the order of the checks
 abbrev pub version_keys : List CalKey
 version_keys = Version ∷ []
 
@@ -102,16 +99,15 @@ answers_keys =
 abbrev pub question_keys : List CalKey
 question_keys = Question ∷ []
 
--- the keys below the version in files of a version, table after table
+-- all but `version`, table after table
 abbrev pub lower_keys : ℕ → List (List CalKey)
 lower_keys version =
     permit_keys version ∷ torque_keys ∷ pairs_keys ∷ plant_keys ∷ answers_keys ∷ question_keys ∷ []
 
--- all keys of a version
+-- F20
 abbrev pub all_keys : ℕ → List (List CalKey)
 all_keys version = version_keys ∷ lower_keys version
 
--- the columns of the table of keys
 abbrev pub table_of : CalKey → List ℕ
 table_of key = (entry_of key).table
 
@@ -121,11 +117,10 @@ name_of key = (entry_of key).name
 abbrev pub content_of : CalKey → Content
 content_of key = (entry_of key).content
 
--- as notes print it: the table's name, a dot and the key's name, or its name alone at the top
 abbrev dotted : List ℕ → List ℕ → List ℕ
 dotted [] name = name
 dotted (c ∷ cs) name = (c ∷ cs) ++ codes "." ++ name
 
--- the text of a key
+-- F21, as notes print a key
 abbrev pub text_of : CalKey → List ℕ
 text_of key = dotted (table_of key) (name_of key)

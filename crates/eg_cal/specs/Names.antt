@@ -1,5 +1,4 @@
--- A calibration file may have no name, at the top or in a table, but those of its five tables and of its
--- version's keys.
+-- The names that a calibration file may have at the top and in its tables (F21, Key unknown).
 use Rattle.std.specs.Prelude.{ℕ, Bool, true, ◌&&◌, List, [], ◌∷◌, ◌++◌, map, codes, Option, Some, None}
 use Rattle.toml.specs.Data.{Members}
 use Rattle.eg_toml.specs.Values.{table_at}
@@ -7,22 +6,21 @@ use Rattle.eg_toml.specs.Names.{all_names, is_among}
 use Rattle.eg_cal.specs.declared.key.CalKey.{CalKey}
 use Rattle.eg_cal.specs.Keys.{name_of, version_keys, permit_keys, torque_keys, pairs_keys, plant_keys, answers_keys, question_keys}
 
--- the names of these keys
 abbrev pub names_of : List CalKey → List (List ℕ)
 names_of keys = map name_of keys
 
--- the names at the top: two keys and five tables
+-- two keys and five tables
 abbrev pub top_names : List (List ℕ)
 top_names =
     names_of (version_keys ++ question_keys)
     ++ codes "permit" ∷ codes "torque" ∷ codes "pairs" ∷ codes "plant" ∷ codes "answers" ∷ []
 
--- each name in a table, if there is one, is among these
+-- each name in a table, if there is this table, is among these
 abbrev pub has_names : List (List ℕ) → Option Members → Bool
 has_names known (Some ms) = all_names (is_among known) ms
 has_names known None = true
 
--- no name stands at the top or in a table but those of this version
+-- F21, Key unknown
 unfoldable pub is_all_known : ℕ → Members → Bool
 is_all_known version ms =
     all_names (is_among top_names) ms

@@ -1,5 +1,4 @@
--- A question of a calibration file is a table with all of eleven names and no other, each of one word or two,
--- and there are 2 to 64 questions.
+-- The questions of a calibration file (F20): 2 to 64 tables, each with all of eleven names and no other.
 use Rattle.std.specs.Prelude.{ℕ, List, [], ◌∷◌, codes, Option, Some, None, if◌then◌else◌}
 use Rattle.toml.specs.Data.{Data, Members, get_member, as_table}
 use Rattle.eg_sensor.specs.declared.readings.Readings.{Readings}
@@ -9,21 +8,17 @@ use Rattle.eg_toml.specs.Values.{number_at, ◌>>=◌}
 use Rattle.eg_toml.specs.Arrays.{numbers_in, array_in, one}
 use Rattle.eg_toml.specs.Names.{all_names, is_among}
 
--- the names that a question has, and no other
 abbrev pub question_names : List (List ℕ)
 question_names =
     codes "seed" ∷ codes "pedal" ∷ codes "plate" ∷ codes "load" ∷ codes "speed" ∷ codes "raise"
     ∷ codes "check" ∷ codes "used" ∷ codes "estimate" ∷ codes "allowed" ∷ codes "answer" ∷ []
 
--- a number of one word
 abbrev pub word_at : List ℕ → Members → Option ℕ
 word_at name ms = number_at 0 65535 name ms
 
--- two such numbers
 abbrev pub pair_at : List ℕ → Members → Option (List ℕ)
 pair_at name ms = get_member name ms >>= numbers_in 2 2 65535
 
--- the readings of a question
 unfoldable pub readings_in : Members → Option Readings
 readings_in ms = do
   pedal ← pair_at (codes "pedal") ms
@@ -41,7 +36,6 @@ readings_in ms = do
     raise_check = check;
   })
 
--- its test row
 unfoldable pub row_in : Members → Option TestRow
 row_in ms = do
   seed ← word_at (codes "seed") ms
@@ -57,21 +51,18 @@ row_in ms = do
     allowed = allowed;
   })
 
--- its test row and its answer
 unfoldable pub asked_in : Members → Option Question
 asked_in ms = do
   row ← row_in ms
   answer ← word_at (codes "answer") ms
   Some (record { row = row; answer = answer })
 
--- a question: a table with all its names, and no other
+-- F20: a table with all these names, and no other
 abbrev pub question_in : Members → Option Question
 question_in ms = if all_names (is_among question_names) ms then asked_in ms else None
 
--- a value that is such a table
 abbrev pub question_of : Data → Option Question
 question_of d = as_table d >>= question_in
 
--- an array of 2 to 64 of them
 abbrev pub questions_in : Data → Option (List Question)
 questions_in d = array_in 2 64 (one question_of) d

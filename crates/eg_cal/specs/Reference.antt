@@ -1,7 +1,7 @@
--- Outside the headline. The text of the reference file.
+-- Outside the headline. The text of the reference file (C75).
 use Rattle.std.specs.Prelude.{ℕ, List, ◌++◌, codes}
 
--- its bytes, those of examples/calibration/reference.toml
+-- examples/calibration/reference.toml
 abbrev pub reference_text : List ℕ
 reference_text =
     codes "version = 1\n"

@@ -1,4 +1,4 @@
--- Outside the headline. What the rules of a calibration file are in all, without their order.
+-- Outside the headline. The rules of a calibration file (F20, F21), without their order.
 use Rattle.std.specs.Prelude.{◌≡◌, ◌↔◌, ◌≤◌, ◌<◌, true, Some, Ok}
 use Rattle.toml.specs.Data.{Members}
 use Rattle.eg_torque.specs.Permit.{DoesNotFall}
@@ -11,14 +11,13 @@ use Rattle.eg_cal.specs.Held.{IsKeyOf, IsHeld}
 use Rattle.eg_cal.specs.Names.{is_all_known}
 use Rattle.eg_cal.specs.Calibration.{permit_of, rules_of, times_of, parts_of, calibration_of}
 
--- the answer is sent inside the window, and the window lies inside the period
+-- C33
 pub record IsWindow (t : TimeParts) : Type 0 where
   pub from_first : t.first ≤ t.send
   pub to_last : t.send ≤ t.last
   pub inside : t.last < t.period
 
--- each key of the file's version is there and holds what it may, no other name is there, no row of the permit
--- table falls, the answer window is in order, and each question is answered
+-- C74, F20: what an accepted document keeps
 pub record KeepsRules (ms : Members) : Type 0 where
   pub keys : (key : CalKey) → IsKeyOf (version_of ms) key → IsHeld ms key
   pub names : is_all_known (version_of ms) ms ≡ true
@@ -26,8 +25,8 @@ pub record KeepsRules (ms : Members) : Type 0 where
   pub window : IsWindow (times_of ms)
   pub answers : AreAnswered (rules_of ms) (questions_of ms Question)
 
--- the law: a document is accepted exactly if it keeps the rules, and its calibration has the values under
--- its keys
+-- Claim 38: a document is accepted exactly if it keeps the rules, and its calibration has the values under
+-- its keys.
 abbrev pub AcceptedLaw : Type 0
 AcceptedLaw = (ms : Members) (parts : CalibrationParts) →
     (calibration_of (Some ms) ≡ Ok parts) ↔ (KeepsRules ms × (parts ≡ parts_of ms))

@@ -1,6 +1,4 @@
--- `coverage` writes a row for each class of fault, or part of one, that the laws tell apart: what is at
--- stake, which watch finds it, within how many ticks, from when on the stages are off, and whether it may
--- stay hidden.
+-- The text of `coverage` (F44). A case is a class of faults, or a part of a class, and has a row of its own.
 use Rattle.std.specs.Prelude.{◌≡◌, ℕ, ◌+◌, Bool, true, false, List, [], ◌∷◌, ◌++◌, map, codes, decimal, Option, Some, None, SomeIff, ◌==◌, if◌then◌else◌}
 use Rattle.std.specs.List.{concat}
 use Rattle.eg_base.specs.Outside.{ShownSink}
@@ -19,10 +17,8 @@ use Rattle.eg_desk.specs.declared.coverage.Off.TheVariants.{Never, After, Confir
 
 -- ---- the numbers ----
 
--- These numbers are those of a calibration: how many ticks in a row confirm a pair that disagrees, the
--- worst-case reaction, the tick of its span at which a start-up test reads the paths back, how many wrong
--- verdicts in a row confirm, and how long an excess lasts under lapses, if a number is proved for the
--- calibration.
+-- The numbers of a calibration that stand in rows: `pair`, the ticks in a row that confirm a pair that
+-- disagrees, and four lines of `limits` (F40).
 pub record AreTicks (cal : CalibrationParts) (ticks : CoverageTicks) : Type 0 where
   pub pair : ticks.pair ≡ feeds_to_confirm cal.rules.pair
   pub reaction : ticks.reaction ≡ reaction_of cal.times
@@ -30,25 +26,25 @@ pub record AreTicks (cal : CalibrationParts) (ticks : CoverageTicks) : Type 0 wh
   pub verdicts : ticks.verdicts ≡ feeds_to_confirm cal.times.weights
   pub missed : SomeIff ticks.missed (BoundsMissed cal) (longest_missed cal)
 
--- a fault that is found within so many ticks, and one that nothing need find and that can stay hidden
+-- a row whose faults are found within so many ticks, and a row whose faults can stay hidden
 abbrev pub found : ℕ → Off → CoverageRow
 found within off = record { within = Some within; off = off; hidden = false }
 
 abbrev pub unfound : Off → CoverageRow
 unfound off = record { within = None; off = off; hidden = true }
 
--- no true excess lasts longer, if there is such a number
+-- C103: one tick more than `missed`, if there is such a number
 unfoldable pub lapse_off : Option ℕ → Off
 lapse_off None = Never
 lapse_off (Some longest) = Excess (longest + 1)
 
--- a lapse is found where one wrong verdict confirms; else it can stay hidden
+-- C102: a lapse is found if one wrong verdict confirms
 unfoldable pub lapse_numbers : CoverageTicks → CoverageRow
 lapse_numbers ticks =
     if ticks.verdicts == 1 then found ticks.reaction (After ticks.reaction)
     else unfound (lapse_off ticks.missed)
 
--- the numbers of the row of a case
+-- F44, the columns `within`, `off` and `hidden`
 unfoldable pub numbers_of : CoverageTicks → CoverageCase → CoverageRow
 numbers_of ticks ScriptPedal = found ticks.pair (Confirmed 1)
 numbers_of ticks ScriptPlate = found ticks.pair (After ticks.pair)
@@ -79,7 +75,6 @@ numbers_of ticks Path2Tested = found (ticks.test + 1) (After 0)
 numbers_of ticks PathOpen = unfound (After 0)
 numbers_of ticks Lapse = lapse_numbers ticks
 
--- the cases in their order
 abbrev pub cases : List CoverageCase
 cases =
     ScriptPedal ∷ ScriptPlate ∷ ScriptLoad ∷ ScriptSpeed ∷ ScriptWithin ∷ ScriptContact ∷ OffsetPedal
@@ -89,7 +84,7 @@ cases =
 
 -- ---- the text ----
 
--- the first two fields of a row: the class and the case
+-- F44, the columns `class` and `case`
 unfoldable pub case_words : CoverageCase → List ℕ
 case_words ScriptPedal = codes "script,pedal apart by more than its tolerance"
 case_words ScriptPlate = codes "script,plate apart by more than its tolerance"
@@ -120,7 +115,7 @@ case_words Path2Tested = codes "path2-closed,with a reset"
 case_words PathOpen = codes "path-open,either path"
 case_words Lapse = codes "lapse,level 2 left out at times"
 
--- the one behind them: what is at stake
+-- column `effect`
 unfoldable pub case_stakes : CoverageCase → List ℕ
 case_stakes ScriptPedal = codes ",wrong pedal is seen"
 case_stakes ScriptPlate = codes ",wrong plate is seen"
@@ -151,7 +146,7 @@ case_stakes Path2Tested = codes ",no cut by path 2"
 case_stakes PathOpen = codes ",cut without need"
 case_stakes Lapse = codes ",late cut"
 
--- the watch that finds it, if one does
+-- column `finds`, if a watch finds the faults of the row
 unfoldable pub case_watch : CoverageCase → List ℕ
 case_watch ScriptPedal = codes "pedal"
 case_watch ScriptPlate = codes "plate"
@@ -171,12 +166,12 @@ case_watch Path2Tested = codes "start"
 case_watch Lapse = codes "answers"
 case_watch _ = codes "-"
 
--- which watch finds it, and within how many ticks, or that none need
+-- columns `finds` and `within`
 unfoldable pub found_text : CoverageCase → Option ℕ → List ℕ
 found_text case None = codes ",-,-"
 found_text case (Some ticks) = codes "," ++ (case_watch case ++ (codes "," ++ decimal ticks))
 
--- when the stages are off
+-- column `off`
 unfoldable pub off_text : Off → List ℕ
 off_text Never = codes ",-"
 off_text (After ticks) = codes "," ++ decimal ticks
@@ -184,30 +179,28 @@ off_text (Confirmed ticks) = codes ",confirmed + " ++ decimal ticks
 off_text (Ordered ticks) = codes ",ordered + " ++ decimal ticks
 off_text (Excess ticks) = codes ",excess < " ++ decimal ticks
 
--- whether it may stay hidden, and the end of the line
+-- column `hidden`, and the line feed
 unfoldable pub hidden_text : Bool → List ℕ
 hidden_text true = codes ",1\n"
 hidden_text false = codes ",0\n"
 
--- a row with the words of a case and these numbers
+-- the row of a case with any numbers
 abbrev pub numbers_line : CoverageCase → CoverageRow → List ℕ
 numbers_line case row =
     case_words case
     ++ (case_stakes case ++ (found_text case row.within ++ (off_text row.off ++ hidden_text row.hidden)))
 
--- the row of a case, and the rows of cases
 abbrev pub coverage_line : CoverageTicks → CoverageCase → List ℕ
 coverage_line ticks case = numbers_line case (numbers_of ticks case)
 
 abbrev pub coverage_lines : CoverageTicks → List CoverageCase → List ℕ
 coverage_lines ticks these = concat (map (coverage_line ticks) these)
 
--- the header, and the rows of all cases
+-- F44
 unfoldable pub coverage_text : CoverageTicks → List ℕ
 coverage_text ticks = codes "class,case,effect,finds,within,off,hidden\n" ++ coverage_lines ticks cases
 
 -- ---- `coverage [--cal NAME]` ----
 
--- the header and the rows by a calibration are written
 abbrev pub TellsCoverage : CalibrationParts → Change ShownSink → Outcome → Type 0
 TellsCoverage cal out o = (ticks : CoverageTicks) × AreTicks cal ticks × LineEnds (coverage_text ticks) out o

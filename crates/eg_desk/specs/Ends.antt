@@ -1,5 +1,5 @@
--- What `check`, `answers`, `asm` and `dis` read, and what is written: `check` tells the first tick by which a
--- file's excess is confirmed, `bound` and `limits` write limits of a calibration.
+-- How `check`, `bound`, `limits`, `answers` and `asm` end once their files are known, and what comes of these
+-- files (F1, F3, F4).
 use Rattle.std.specs.Prelude.{ℕ, List, Option, Result, Ok, Err}
 use Rattle.eg_base.specs.Outside.{ShownStore, ShownSink}
 use Rattle.eg_num.specs.Places.{IsFirst}
@@ -29,47 +29,45 @@ use Rattle.eg_desk.specs.Limits.{AreLimits}
 
 -- ---- `check [--cal NAME] FILE` ----
 
--- once the rows are known: the line tells the first tick by which the excess is confirmed
+-- C76, once the rows are known
 abbrev pub RowsEnd : Rules → List CheckRow → Change ShownSink → Outcome → Type 0
 RowsEnd rules rows out o = (first : Option ℕ) × IsFirst rules.torque (excesses rules rows) first
     × LineEnds (check_line first) out o
 
 -- ---- `bound [--cal NAME]` and `limits [--cal NAME]` ----
 
--- this text of the calibration's limits is written
+-- F40; `text` is that of `bound` or of `limits`
 abbrev pub TellsLimits : (Limits → List ℕ) → CalibrationParts → Change ShownSink → Outcome → Type 0
 TellsLimits text cal out o = (limits : Limits) × AreLimits cal limits × LineEnds (text limits) out o
 
 -- ---- `answers FILE` ----
 
--- what the bytes of a calibration file say but for their answers: its questions, each with the right answer
+-- C78: the questions that a calibration file says, with their right answers
 unfoldable pub answers_said : List ℕ → Result (List Question) CalFault
 answers_said bytes = answers_of (document_of bytes)
 
--- the same, or why the file is refused
 abbrev pub answers_or_refusal : List ℕ → Result (List Question) Refusal
 answers_or_refusal bytes = refused refusal.Calibration (answers_said bytes)
 
--- the same of a file, which may be too long
+-- F3, F21; no answer is refused
 abbrev pub answers_file : List ℕ → Result (List Question) Refusal
 answers_file = sized role.Calibration answers_or_refusal
 
 -- ---- `asm FILE` ----
 
--- how a call ends with a fault of a source: running out of memory is no refusal
+-- F3: memory that ran out is no refusal
 abbrev pub source_end : AsmFault → Outcome
 source_end fault.Memory = outcome.Memory
 source_end why = outcome.Refused (refusal.Source why)
 
--- once the bytes of a source are known: its words come, or why it is refused, or memory ran out
+-- F25 to F27, once the bytes of a source are known
 abbrev pub SourceComes : List ℕ → Result (List ℕ) Outcome → Type 0
 SourceComes bytes (Ok words) = Assembles bytes (Ok words)
 SourceComes bytes (Err (outcome.Refused (refusal.Source why))) = Assembles bytes (Err why)
 SourceComes bytes (Err outcome.Memory) = Unit {0}
 SourceComes bytes (Err _) = ⊥
 
--- the bytes of the file come, and then what they say, and no fault of reading was met; or how the call ends
--- without them
+-- F3, F27: what comes of the file of a source. If its bytes came, no fault of reading was met.
 abbrev pub SourceFileComes : List ℕ → Change ShownStore → Result (List ℕ) Outcome → Type 0
 SourceFileComes name store come = (read : Result (List ℕ) Outcome)
     × FileComes role.Source (whole role.Source) name store read
@@ -82,6 +80,6 @@ AcceptsSource name store = Accepts (whole role.Source) name store
 
 -- ---- `dis FILE` ----
 
--- the file that `dis` reads: an image that belongs to no run
+-- the role of the file of `dis`, an image of no run
 abbrev pub read_alone : Role
 read_alone = role.Image 0

@@ -1,20 +1,11 @@
--- The limits of a calibration are its worst-case reaction, bound for lapses, how many wrong verdicts or ticks
--- of excess confirm from an empty counter, a test's last tick, the spacing of misses, how long an excess
--- lasts and how great it is at the most, how long the ramp is, and how long an excess lasts under lapses.
+-- The limits of a calibration, from which `bound` and `limits` are written (F40).
 use Rattle.std.specs.Prelude.{◌≡◌, SomeIff}
 use Rattle.eg_answer.specs.Times.{feeds_to_confirm, reaction_of, test_ticks_of, lapse_bound_of, HasMissSpacing, miss_spacing_of}
 use Rattle.eg_values.specs.Calibration.{CalibrationParts}
 use Rattle.eg_values.specs.Excess.{BoundsLapses, BoundsMissed, longest_missed, longest_stretch, greatest_excess, ramp_ticks}
 use Rattle.eg_desk.specs.declared.limit.Limits.{Limits}
 
--- These are the limits of a calibration: the worst-case reaction; the bound for lapses, if it has one; how
--- many wrong verdicts in a row open path 2, and how many ticks of excess in a row confirm it where level 2
--- runs at each, both from an empty counter; the tick of its span at which a start-up test reads the paths
--- back; a number of ticks such that missed runs of level 2 which lie so far apart never make wrong answers
--- cut before a watch trips; how many ticks in a row an excess lasts at the most; how far torque lies above
--- what is permitted and the threshold together at the most; how many ticks the ramp takes from the permit
--- table's greatest number to its least, if it comes down; and how many ticks in a row an excess lasts at the
--- most under lapses, if a number is proved for the calibration.
+-- F40, a field for each line
 pub record AreLimits (cal : CalibrationParts) (limits : Limits) : Type 0 where
   pub reaction : limits.reaction ≡ reaction_of cal.times
   pub lapse : SomeIff limits.lapse (BoundsLapses cal)

@@ -1,7 +1,6 @@
--- Outside the headline. What the numbers of each row of `coverage` mean, by the records of runs on the bench:
--- each row holds of every run by its calibration under a valid fault of the row's class. And where a row says
--- that faults can stay hidden, which ones: all of the class, or those that are named below. Rows of a record
--- stand newest first.
+-- Outside the headline. What the numbers of `coverage` mean (F44). The numbers of a row hold of each run on
+-- the bench by the calibration under a valid fault of the row's class. If faults can stay hidden, the
+-- definitions below say which. Rows of a record stand newest first.
 use Rattle.std.specs.Prelude.{◌≡◌, ◌≢◌, ◌==◌, ◌⊎◌, ℕ, ◌+◌, ◌≤◌, ◌<◌, Bool, true, false, not, ◌&&◌, max, nat_le, List, [], ◌∷◌, ◌++◌, All, length, Option, Some, None}
 use Rattle.eg_answer.specs.Times.{feeds_to_confirm}
 use Rattle.eg_answer.specs.Periods.{place_of}
@@ -40,11 +39,10 @@ use Rattle.eg_desk.specs.Coverage.{AreTicks, numbers_of}
 
 -- ---- which runs ----
 
--- a class of this name
 unfoldable pub is_of : ClassName → Class → Bool
 is_of name class = class_index (name_of class) == class_index name
 
--- P of each run by this calibration under a valid fault of such a class, and of its record
+-- P holds of each run by this calibration under a valid fault of such a class, and of its record
 abbrev pub OfRuns : CalibrationParts → (Class → Bool) → (Setting → Fault → List Row → Type 0) → Type 0
 OfRuns cal meant P =
     (engine : EngineKind) (r : Run) (fault : Fault) → IsRun r → r.setting.cal ≡ cal →
@@ -78,19 +76,19 @@ HiddenIn false P = ⊥
 
 -- ---- the rows of a span that begins at tick `start`, or of its part up to any tick ----
 
--- Of a drive span: the stages are off from n ticks after the onset, or after the span's begin if that is
--- later.
+-- Of a drive span: the stages are off from n ticks after the onset, or after the beginning of the span if
+-- that is later.
 abbrev pub IsOffFrom : (onset n start : ℕ) → List Row → Type 0
 IsOffFrom onset n start rows = All (λ row. max onset start + n ≤ row.tick → row.on ≡ false) rows
 
--- and `answers` was found before each row from that tick on, at a row of the span
+-- Of a drive span: before each row from that tick on, `answers` has found something in the span.
 abbrev pub FindsAnswersWithin : (onset n start : ℕ) → List Row → Type 0
 FindsAnswersWithin onset n start rows =
     (later before : List Row) (row : Row) → rows ≡ later ++ row ∷ before → max onset start + n ≤ row.tick →
     Finds (Answers ∷ []) before
 
--- Where a pair disagrees at n rows in a row, its watch was found by the last of them, or a trip came; and the
--- stages are off at each row after them.
+-- If a pair disagrees at n rows in a row, its watch has found something by the last of them, or a trip has
+-- come; and the stages are off at each later row.
 abbrev pub FindsApart : Pair → Setting → (n start : ℕ) → List Row → Type 0
 FindsApart pair s n start rows =
     (later stretch before : List Row) → rows ≡ later ++ (stretch ++ before) →
@@ -107,15 +105,15 @@ CutsApart pair s n start rows =
 abbrev pub FindsFlip : (onset n : ℕ) → List Row → Type 0
 FindsFlip onset n rows = (k : ℕ) × (k < n) × All (λ row. row.tick ≡ onset + k → row.found.mirror ≡ true) rows
 
--- the stages are off n ticks after an order to open path 2
+-- the stages are off from n ticks after an order to open path 2
 abbrev pub CutsOrdered : Fault → (n start : ℕ) → List Row → Type 0
 CutsOrdered fault n start rows =
     (later between before : List Row) (row ordered : Row) →
     rows ≡ later ++ row ∷ (between ++ ordered ∷ before) →
     (effects (Some fault) ordered.tick).opens ≡ true → n ≤ length between + 1 → row.on ≡ false
 
--- Of a drive span: after each tick of it that level 2 misses, `answers` was found before each row from n
--- ticks on; and the stages are off at these rows.
+-- Of a drive span: from n ticks after each of its ticks that level 2 misses, `answers` has found something
+-- before each row, and the stages are off.
 abbrev pub FindsMisses : Fault → (n start : ℕ) → List Row → Type 0
 FindsMisses fault n start rows =
     (tick : ℕ) → start ≤ tick → misses_tick (Some fault) tick ≡ true → FindsAnswersWithin tick n start rows
@@ -124,41 +122,42 @@ abbrev pub CutsMisses : Fault → (n start : ℕ) → List Row → Type 0
 CutsMisses fault n start rows =
     (tick : ℕ) → start ≤ tick → misses_tick (Some fault) tick ≡ true → IsOffFrom tick n start rows
 
--- Of a drive span in which a flip comes: the stages are off from n ticks after it.
+-- Of a drive span in which a flip comes: the stages are off from n ticks after the flip.
 abbrev pub IsOffAfterFlip : (onset n start : ℕ) → List Row → Type 0
 IsOffAfterFlip onset n start rows = start ≤ onset → IsOffFrom onset n start rows
 
--- Of a test span: the stages are off from n ticks after its begin.
+-- Of a test span: the stages are off from n ticks after its beginning.
 abbrev pub IsOffSince : (n start : ℕ) → List Row → Type 0
 IsOffSince n start rows = All (λ row. start + n ≤ row.tick → row.on ≡ false) rows
 
--- Of a test span: the watch `start` is found at one of its first n rows, if the fault has begun by then.
+-- Of a test span: `start` finds something at one of the first n rows, if the fault has begun by then.
 abbrev pub FindsClosed : Fault → (n : ℕ) → List Row → Type 0
 FindsClosed fault n rows = (k : ℕ) × (k < n) × EachTestSpan (ClosedAreFound (Some fault) k) rows
 
 -- ---- which faults stay hidden ----
 
--- on each engine of the bench there are runs of every length under the fault in which no watch finds
--- anything
+-- C100, of this fault on both engines
 abbrev pub StaysHidden : CalibrationParts → Fault → Type 0
 StaysHidden cal fault = (engine : EngineKind) → CanStayHidden (bench_of engine) cal fault
 
--- so it is of each valid fault of such a class
+-- C100, of each valid fault of such a class
 abbrev pub AllHide : CalibrationParts → (Class → Bool) → Type 0
 AllHide cal meant =
     IsAccepted cal → (fault : Fault) → IsValid fault → meant fault.class ≡ true → StaysHidden cal fault
 
--- and so it is on the diesel engine, which shows no load at rest
+-- C100, of each valid fault of such a class, on the diesel engine, which shows no load at rest
 abbrev pub AllHideAtRest : CalibrationParts → (Class → Bool) → Type 0
 AllHideAtRest cal meant =
     IsAccepted cal → (fault : Fault) → IsValid fault → meant fault.class ≡ true →
     CanStayHidden diesel cal fault
 
--- offsets within the tolerance of a pair stay hidden (there are none where it is 0; of a load's, those with
--- which a raise of 10,000 and the threshold cover the estimate of the greatest load then read); so do scripts
--- on a pedal or speed track, within the tolerance of its reading at rest; and so do send ticks that are moved
--- within the window, lapses of one tick that isn't a send tick, and lapses whose misses lie as far apart as
--- `spacing` of `limits` says
+-- Parts of a class that hide (C100):
+-- - offsets within the tolerance of a pair (none, if the tolerance is 0); of a load only those with which a
+--   raise of 10,000 and the threshold cover the estimate of the greatest load that is then read;
+-- - scripts on a pedal or speed track, within the tolerance of its reading at rest;
+-- - send ticks that are moved within the window;
+-- - a lapse of one tick that isn't a send tick;
+-- - lapses whose misses lie `spacing` of `limits` apart.
 abbrev pub SmallOffsetsStay : Type 0
 SmallOffsetsStay = (engine : EngineKind) → SmallOffsetsHide (bench_of engine)
 
@@ -184,11 +183,11 @@ on_contact _ = false
 
 -- ---- what a row says ----
 
--- from n ticks after the first tick by which a true excess is confirmed in a drive span the stages are off
+-- C62, with n ticks in place of R
 abbrev pub ReactsIn : Setting → List Row → ℕ → Type 0
 ReactsIn s rows n = EachDriveSpan (ReactWithin n s.cal.rules.torque s.cal.rules.threshold) rows
 
--- nothing need find it, and the stages are off after a confirmed excess
+-- nothing need find the fault, and the stages are off after a confirmed excess
 abbrev pub MeansUnfound : CalibrationParts → (Class → Bool) → (hides : Type 0) → CoverageRow → Type 0
 MeansUnfound cal meant hides row = (row.within ≡ None) × HiddenIn row.hidden hides
     × OfRuns cal meant (λ s fault rows. OffConfirmed row.off (ReactsIn s rows))
@@ -199,7 +198,7 @@ MeansPedal cal meant row = (row.hidden ≡ false) × OfRuns cal meant (λ s faul
     FoundIn row.within (λ n. EachDriveSpan (FindsApart pedal_pair s n) rows)
     × OffConfirmed row.off (ReactsIn s rows))
 
--- another pair is found and cut
+-- a pair other than the pedal's is found and cut
 abbrev pub MeansApart : CalibrationParts → (Class → Bool) → Pair → CoverageRow → Type 0
 MeansApart cal meant pair row = (row.hidden ≡ false) × OfRuns cal meant (λ s fault rows.
     FoundIn row.within (λ n. EachDriveSpan (FindsApart pair s n) rows)
@@ -223,20 +222,18 @@ MeansFoundLapse cal row = (row.hidden ≡ false) × OfRuns cal (is_of name.Lapse
     FoundIn row.within (λ n. EachDriveSpan (FindsMisses fault n) rows)
     × OffAfter row.off (λ n. EachDriveSpan (CutsMisses fault n) rows))
 
--- how long an excess lasts under a lapse, or that no number is proved for the calibration
+-- C103: how long an excess lasts under a lapse, or that no number is proved for the calibration
 abbrev pub MeansMissed : CalibrationParts → Off → Type 0
 MeansMissed cal (Excess n) = OfRuns cal (is_of name.Lapse) (λ s fault rows.
     EachDriveSpan (ExcessIsBelow s.cal.rules.threshold n) rows)
 MeansMissed cal Never = ¬ BoundsMissed cal
 MeansMissed cal _ = ⊥
 
--- a lapse can stay hidden: one of one tick that isn't a send tick does, and so do those whose misses lie far
--- apart
+-- lapses that can stay hidden: those of one tick that isn't a send tick, and those whose misses lie far apart
 abbrev pub MeansHiddenLapse : CalibrationParts → CoverageRow → Type 0
 MeansHiddenLapse cal row =
     (row.within ≡ None) × HiddenIn row.hidden (OneMissStays cal × FarMissesStay) × MeansMissed cal row.off
 
--- What the numbers of the row of a case mean.
 unfoldable pub RowMeans : CalibrationParts → CoverageCase → CoverageRow → Type 0
 RowMeans cal case.ScriptPedal row = MeansPedal cal (is_of name.Script) row
 RowMeans cal case.ScriptPlate row = MeansApart cal (is_of name.Script) plate_pair row
@@ -285,7 +282,7 @@ RowMeans cal case.Lapse row =
     (feeds_to_confirm cal.times.weights ≡ 1 → MeansFoundLapse cal row)
     × (feeds_to_confirm cal.times.weights ≢ 1 → MeansHiddenLapse cal row)
 
--- the law: by each calibration the numbers of the row of each case mean that
+-- F44, by each calibration
 abbrev pub NumbersMean : Type 0
 NumbersMean =
     (cal : CalibrationParts) (ticks : CoverageTicks) → AreTicks cal ticks → (case : CoverageCase) →

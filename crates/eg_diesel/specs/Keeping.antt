@@ -14,7 +14,7 @@ pub record IsKept (p : PlantParts) (d : Diesel) : Type 0 where
   pub burnt : d.quantity ≤ smoke_limit p d.boost
   pub torque : d.torque ≤ estimate p.kt d.quantity
 
--- besides, the smoke limit of its boost, which it keeps from one step to the next, is that of the plant
+-- the engine also keeps the smoke limit of its boost from one step to the next, and this is that of the plant
 pub record KeepsSmokeLimit (p : PlantParts) (d : Diesel) (limit : ℕ) : Type 0 where
   pub state : IsKept p d
   pub limited : limit ≡ smoke_limit p d.boost

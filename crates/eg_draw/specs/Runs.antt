@@ -1,5 +1,4 @@
--- The run drawn in a state has an image of one of four kinds, a drive of twenty stretches of a hundred equal
--- rows, and a fault of any class or none. Beside what each part gives stands how many draws it takes.
+-- The run that is drawn in a state (C94). Beside what each part gives stands how many draws the part takes.
 use Rattle.std.specs.Prelude.{ℕ, zero, suc, ◌≡◌, ◌+◌, ◌%◌, ◌≤◌, ◌==◌, pos, false, List, [], ◌∷◌, ◌++◌, map, replicate, take, slice_index, slice_set, length, All, Option, Some, None, IfSome, if◌then◌else◌}
 use Rattle.eg_num.specs.Drive.{DriveRow, driven, IsDrive}
 use Rattle.eg_sensor.specs.declared.tracks.TheConstants.{PAIRED_TRACKS}
@@ -16,32 +15,30 @@ use Rattle.eg_draw.specs.declared.runs.DrawnRun.{DrawnRun}
 
 -- ---- the image ----
 
--- the image that sets both outputs to 1000, with the two words drawn that load that number
+-- C94, the image of kind 3
 unfoldable pub full_with : ℕ → List ℕ
 full_with x = slice_set (slice_set FULL 2 (0x1400 + draw x % 8)) 3 (0x2400 + draw (next x) % 128)
 
--- the image of a kind, 0 to 3
+-- C94
 unfoldable pub image_of : ℕ → ℕ → List ℕ
 image_of kind x =
     if kind == 0 then IDLE else if kind == 1 then FULL else if kind == 2 then draws 256 x else full_with x
 
--- how many draws the image takes
 abbrev pub image_draws : ℕ → ℕ
 image_draws kind = if kind == 2 then 256 else if kind == 3 then 2 else 0
 
 -- ---- the drive ----
 
--- a row of the drive: pedal 0 to 1000 per mille, speed 800 to 6000 rpm, raise 0 to 499 tenths of Nm
+-- pedal in per mille, speed in rpm, raise in tenths of Nm
 unfoldable pub stretch_row : ℕ → DriveRow
 stretch_row x =
     driven (draw x % 1001) (800 + draw (next x) % 5201) (draw (next (next x)) % 500)
 
--- this many stretches of a hundred equal rows, each with three draws of its own
 unfoldable pub stretches : ℕ → ℕ → List DriveRow
 stretches zero x = []
 stretches (suc n) x = replicate 100 (stretch_row x) ++ stretches n (after 3 x)
 
--- the drive of a run: 60 draws
+-- 60 draws
 unfoldable pub trace_of : ℕ → List DriveRow
 trace_of x = stretches 20 x
 
@@ -51,19 +48,19 @@ trace_of x = stretches 20 x
 unfoldable pub one_of : ℕ → ℕ → ℕ
 one_of n x = 1 + draw x % n
 
--- bits of a word, at least one of them: 1 to 65,535
+-- C94, a mask
 unfoldable pub drawn_mask : ℕ → ℕ
 drawn_mask x = one_of 65535 x
 
--- four values, each 0 to 1000
+-- C94, the values of `script`
 unfoldable pub four_values : ℕ → List ℕ
 four_values x = map (λ d. d % 1001) (draws 4 x)
 
--- the first 1 to 8 ticks: 0, 1 and so on
+-- C94, the ticks of `lapse`
 unfoldable pub first_ticks : ℕ → List ℕ
 first_ticks x = take (one_of 8 x) (0 ∷ 1 ∷ 2 ∷ 3 ∷ 4 ∷ 5 ∷ 6 ∷ 7 ∷ [])
 
--- the class of a number, 0 to 13, in the order of `Class`; a faulty track is one of a pair, never a contact
+-- C94; a faulty track is one of a pair, never a contact
 unfoldable pub class_of : ℕ → ℕ → Class
 class_of class x =
     if class == 0 then Script (draw x % PAIRED_TRACKS) (four_values (next x))
@@ -81,18 +78,17 @@ class_of class x =
     else if class == 12 then PathOpen (one_of PATH_2 x)
     else Lapse (first_ticks x) 0
 
--- how many draws the numbers of each class take, in the same order
 abbrev pub class_draws : ℕ → ℕ
 class_draws class =
     slice_index (5 ∷ 2 ∷ 1 ∷ 1 ∷ 1 ∷ 2 ∷ 2 ∷ 0 ∷ 1 ∷ 2 ∷ 0 ∷ 0 ∷ 1 ∷ 1 ∷ []) class
 
--- the fault of a class, with an onset of 0 to 1999; 14 is none. The state is the one after the class's draw.
+-- C94; x is the state after the draw of the class
 unfoldable pub fault_of : ℕ → ℕ → Option Fault
 fault_of class x =
     if class == 14 then None
     else Some (record { onset = draw x % 2000; class = class_of class (next x) })
 
--- how many draws its onset and its class take
+-- a draw for the onset, and those of the class
 unfoldable pub fault_draws : ℕ → ℕ
 fault_draws class = if class == 14 then 0 else 1 + class_draws class
 
@@ -102,7 +98,7 @@ fault_draws class = if class == 14 then 0 else 1 + class_draws class
 abbrev pub before_fault : ℕ → ℕ
 before_fault x = after 60 (after (image_draws (draw x % 4)) (next x))
 
--- the run that is drawn: first the image, then the drive, then the fault
+-- C94
 unfoldable pub drawn_run : ℕ → DrawnRun
 drawn_run x =
     let kind = draw x % 4 in
@@ -113,7 +109,7 @@ drawn_run x =
       fault = fault_of (draw last % 15) (next last);
     }
 
--- the state after it, in which the next run is drawn
+-- C94: the state in which the next run is drawn
 unfoldable pub state_after : ℕ → ℕ
 state_after x =
     let last = before_fault x in
@@ -121,7 +117,7 @@ state_after x =
 
 -- ---- what each drawn run keeps ----
 
--- an image of at most 256 words, a drive of 2,000 rows within their limits, and no fault or a valid one
+-- C93, C94
 pub record IsDrawn (run : DrawnRun) : Type 0 where
   pub short : length run.image ≤ 256
   pub rows : length run.drive ≡ 2000

@@ -1,12 +1,11 @@
--- Whatever it answers, a call over a guarded memory leaves 4,096 words of 16 bits, is done where the memory
--- is sure, and leaves it as sure as it was. Contracts see no more of a memory than its words and whether it
--- is sure.
+-- What contracts see of a guarded memory (C23), and what each call over it keeps.
 use Rattle.std.specs.Prelude.{◌≡◌, ℕ, ◌<◌, ◌^◌, Bool, false, List, length, slice_index, Result, IsTrue, IsOk}
 use Rattle.eg_guard.specs.declared.regions.Region.{Region}
 use Rattle.eg_guard.specs.declared.regions.TheConstants.{WORDS}
 use Rattle.eg_guard.specs.Regions.{region_of}
 
--- what a memory shows: its words by their addresses, and whether it is sure, so that a store takes no memory
+-- the words by their addresses, and whether the memory is sure, so that a store takes no memory of the
+-- computer
 pub record ShownMemory : Type 0 where
   pub words : List ℕ
   pub sure : Bool
@@ -16,7 +15,7 @@ pub record AreWords (words : List ℕ) : Type 0 where
   pub count : length words ≡ WORDS
   pub small : (address : ℕ) → slice_index words address < 2 ^ 16
 
--- each word that lies in none of these regions is as before
+-- C23: each word that lies in none of these regions is as before
 abbrev pub SameOutside : (Region → Bool) → List ℕ → List ℕ → Type 0
 SameOutside is_inside old new =
     (address : ℕ) → is_inside (region_of address) ≡ false → slice_index new address ≡ slice_index old address

@@ -1,5 +1,4 @@
--- The memory map says which words level 1, level 2 and the board may load and store; level 1 may store to its
--- data and its two outputs alone.
+-- The memory map (C23, F41).
 use Rattle.std.specs.Prelude.{ℕ, ◌&&◌, Bool, true, false, nat_le, nat_lt, ◌==◌, if◌then◌else◌}
 use Rattle.eg_guard.specs.declared.regions.Who.{Who}
 use Rattle.eg_guard.specs.declared.regions.Who.TheVariants.{Level1, Level2, Board}
@@ -8,15 +7,14 @@ use Rattle.eg_guard.specs.declared.regions.Region.TheVariants.{Code, Data, InPor
 use Rattle.eg_guard.specs.declared.regions.Allowed.{Allowed}
 use Rattle.eg_guard.specs.declared.regions.TheConstants.{DATA, IN_PORTS, LAST_IN_PORT, THROTTLE, IGNITION, RESULTS, LAST_RESULT, PROTECTED, LAST_PROTECTED, LINK}
 
--- the address lies before this one
 abbrev pub is_below : ℕ → ℕ → Bool
 is_below next address = nat_lt address next
 
--- the address lies between these two, which are included
+-- both are included
 abbrev pub is_between : ℕ → ℕ → ℕ → Bool
 is_between first last address = nat_le first address && nat_le address last
 
--- the region in which an address lies
+-- C23, F41
 unfoldable pub region_of : ℕ → Region
 region_of address =
     if is_below DATA address then Code
@@ -39,13 +37,12 @@ load_only = record { load = true; store = false }
 abbrev pub both : Allowed
 both = record { load = true; store = true }
 
--- what a row of the map allows to level 1, to level 2 and to the board
 abbrev pub row : Allowed → Allowed → Allowed → Who → Allowed
 row level1 level2 board Level1 = level1
 row level1 level2 board Level2 = level2
 row level1 level2 board Board = board
 
--- the map: what a region allows to level 1, to level 2 and to the board
+-- F41, for level 1, level 2 and the board
 unfoldable pub allows : Region → Who → Allowed
 allows Code = row load_only nothing both
 allows Data = row both nothing both
@@ -56,6 +53,6 @@ allows Protected = row nothing both both
 allows Link = row nothing load_only both
 allows None = row nothing nothing nothing
 
--- what is allowed at an address
+-- C23, F41
 unfoldable pub access : Who → ℕ → Allowed
 access who address = allows (region_of address) who

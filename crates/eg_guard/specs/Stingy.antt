@@ -7,7 +7,7 @@ pub record StingyState : Type 0 where
   pub words : List ℕ
   pub left : Option ℕ
 
--- the next store that is allowed is the one that is refused
+-- the next allowed store is refused
 unfoldable pub refuses_next : Option ℕ → Bool
 refuses_next None = false
 refuses_next (Some zero) = true

@@ -6,7 +6,6 @@ use Rattle.eg_word.specs.Program.{IsProgramOf}
 use Rattle.eg_word.specs.World.{View, World}
 use Rattle.eg_host.specs.Slices.{world_slice}
 
--- its machine, and the program of its code
 pub record Level1Parts : Type 0 where
   pub registers : Registers
   pub program : List Instruction

@@ -1,5 +1,4 @@
--- A slice wakes level 1's machine and does as many steps as its budget says, and a call for it changes no
--- word outside level 1's own regions.
+-- A slice of level 1 (C20). A call for a slice changes no word outside level 1's own regions.
 use Rattle.std.specs.Prelude.{◌≡◌, ℕ, zero, suc, ◌+◌, ◌<◌, List, [], ◌∷◌, Result, OnOk, OnErr}
 use Rattle.eg_guard.specs.Memory.{ShownMemory, SameOutside, KeepsMemory}
 use Rattle.eg_word.specs.declared.registers.Trap.{Trap}
@@ -9,13 +8,12 @@ use Rattle.eg_word.specs.declared.registers.Registers.{Registers}
 use Rattle.eg_word.specs.Memory.{is_level1_own}
 use Rattle.eg_word.specs.World.{View, World, Shows, world_of, world_step}
 
--- the state in which a slice begins: a machine that waits runs again
+-- C20
 unfoldable pub wake : State → State
 wake Running = Running
 wake Waiting = Running
 wake (Trapped trap) = Trapped trap
 
--- the machine as a slice begins
 abbrev pub slice_start : Registers → Registers
 slice_start m = record m { state = wake m.state }
 
@@ -24,19 +22,19 @@ unfoldable pub steps : ℕ → View → World → World
 steps zero view world = world
 steps (suc count) view world = steps count view (world_step view world)
 
--- the world after a slice: its machine is woken, and then does as many steps as the budget says
+-- C20
 abbrev pub world_slice : View → ℕ → World → World
 world_slice view budget world = steps budget view (record world { registers = slice_start world.registers })
 
--- the world after slice j and those after it, where `view j` is what slice j is shown
+-- C51: the world after slice j and those after it; `view j` is what slice j sees
 unfoldable pub slices_from : ℕ → (ℕ → View) → List ℕ → World → World
 slices_from j view [] world = world
 slices_from j view (budget ∷ budgets) world =
     slices_from (j + 1) view budgets (world_slice (view j) budget world)
 
--- A call for a slice of this budget, over a memory that shows a view, makes a slice of level 1's private
--- world with that view; NoMemory, which never comes over a sure memory, ends it after fewer steps. No word
--- outside level 1's own regions changes. A machine that was trapped stays so, and changes nothing.
+-- C20 to C23: a call for a slice of this budget, over a memory that shows a view, makes a slice of level 1's
+-- world with that view. NoMemory, which never comes over a sure memory, ends the slice after fewer steps. No
+-- word outside level 1's own regions changes. A machine that was trapped stays trapped, and changes nothing.
 pub record IsSlice {T E : Type 0} (budget : ℕ) (m now : Registers) (old new : ShownMemory)
     (result : Result T E) : Type 0 where
   pub world : (view : View) → Shows old.words view

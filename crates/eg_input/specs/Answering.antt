@@ -1,19 +1,15 @@
--- A partner answers a tick with one line: the drive row of the tick, and what its engine shows after its
--- step. The line has nine fields, parted by commas. A number has one to five digits and its limit, and what
--- is true or false is one digit. A line may end with a carriage return, which is no part of it; its line feed
--- is taken off already.
+-- The answer of a partner, in one line (F36). Its line feed is taken off already.
 use Rattle.std.specs.Prelude.{ℕ, Bool, List, Option, Some}
 use Rattle.std.specs.Str.{byte}
 use Rattle.eg_input.specs.Fields.{number_of, truth_of, first_said, ◌>>=◌}
 use Rattle.eg_input.specs.Recording.{before_return, first_number}
 use Rattle.eg_input.specs.declared.answered.PartnerAnswer.{PartnerAnswer}
 
--- the truth value before the first comma of a text, and what stands behind that comma
+-- the truth value before the first comma of a text, and what stands behind this comma
 abbrev pub first_truth : List ℕ → Option (Bool × List ℕ)
 first_truth = first_said (byte ",") truth_of
 
--- What a line answers, if anything: pedal, speed, raise, reset and brake of the drive row, then the position,
--- both loads and the torque that the engine shows.
+-- F36; numbers and ends of lines as in F13
 unfoldable pub answer_of : List ℕ → Option PartnerAnswer
 answer_of line = do
   (pedal, rest) ← first_number 1000 (before_return line)

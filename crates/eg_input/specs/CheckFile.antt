@@ -1,5 +1,4 @@
--- A record of a check file writes a drive row, with neither reset nor brake, and in its fourth field a
--- torque. The file is what a check of torques reads.
+-- The rows of a check file (F9).
 use Rattle.std.specs.Prelude.{ℕ, ◌==◌, ◌≤◌, List, [], ◌∷◌, length, codes, false, Option, Some, None, if◌then◌else◌, Result}
 use Rattle.std.specs.Option.{option_zip}
 use Rattle.eg_num.specs.Drive.{DriveRow, IsDrive}
@@ -9,25 +8,25 @@ use Rattle.eg_input.specs.DriveTrace.{drive_at}
 use Rattle.eg_input.specs.Rows.{file_rows}
 use Rattle.eg_input.specs.declared.fault.TraceFault.{TraceFault}
 
--- a drive row, and a torque in tenths of Nm
+-- a drive row, without reset and brake, and a torque in tenths of Nm
 abbrev pub CheckRow : Type 0
 CheckRow = DriveRow × ℕ
 
--- the limits of its numbers
+-- F9
 abbrev pub IsCheckRow : CheckRow → Type 0
 IsCheckRow row = IsDrive row.0 × (row.1 ≤ 65535)
 
--- the header of a check file
+-- F9
 unfoldable pub check_header : Record
 check_header = codes "pedal" ∷ codes "speed" ∷ codes "raise" ∷ codes "torque" ∷ []
 
--- the row that a record of a check file writes: a drive row, and the torque in the fourth field
+-- F9
 unfoldable pub check_row_of : Record → Option CheckRow
 check_row_of fields =
     if length fields == 4
     then option_zip (drive_at fields (Some false) (Some false)) (number_at fields 3 65535)
     else None
 
--- the rows of a check file, or its fault
+-- F9, F11
 abbrev pub check_rows : List Record → Result (List CheckRow) TraceFault
 check_rows = file_rows (check_header ∷ []) (λ _. check_row_of)

@@ -1,5 +1,4 @@
--- A field of one to five decimal digits writes a number, where that is at most its limit, and a field that is
--- 0 or 1 writes a truth value.
+-- How a field writes a number or a truth value (F10).
 use Rattle.std.specs.Prelude.{ℕ, ◌+◌, ◌*◌, ◌-◌, ◌==◌, ◌&&◌, Bool, true, false, List, length, take, drop, position, codes, fold, Option, Some, None, option_map, option_and_then, if◌then◌else◌, nat_le}
 use Rattle.std.specs.Str.{byte, bytes_eq}
 use Rattle.std.specs.Char.{is_ascii_digit}
@@ -10,45 +9,39 @@ use Rattle.csv.specs.Records.{field_at}
 use Rattle.eg_input.specs.Records.{Record}
 
 infixl 10 ◌>>=◌
--- the number that decimal digits write
 unfoldable pub decimal_value : List ℕ → ℕ
 decimal_value digits = fold (λ value digit. 10 * value + (digit - byte "0")) 0 digits
 
--- one to `most` decimal digits
 abbrev pub is_decimal : ℕ → List ℕ → Bool
 is_decimal most word = nat_le 1 (length word) && nat_le (length word) most && list_all is_ascii_digit word
 
--- the number that one to `most` decimal digits write
 abbrev pub decimal : ℕ → List ℕ → Option ℕ
 decimal most word = if is_decimal most word then Some (decimal_value word) else None
 
--- one to five decimal digits
 abbrev pub is_numeral : List ℕ → Bool
 is_numeral field = is_decimal 5 field
 
--- the number that a field of one to five digits writes, where it is at most `most`
+-- F10
 unfoldable pub number_of : ℕ → List ℕ → Option ℕ
 number_of most field =
     if is_numeral field && nat_le (decimal_value field) most then Some (decimal_value field) else None
 
--- the number in the field of an index, the first being 0
 unfoldable pub number_at : Record → ℕ → ℕ → Option ℕ
 number_at fields i most = option_and_then (number_of most) (field_at fields i)
 
--- the truth value that a field writes, 0 or 1
+-- F10
 unfoldable pub truth_of : List ℕ → Option Bool
 truth_of field =
     if bytes_eq field (codes "0") then Some false
     else if bytes_eq field (codes "1") then Some true
     else None
 
--- the truth value in the field of an index, the first being 0; false where the record has no such field
+-- F9: false, if the record has no such field
 unfoldable pub truth_at : Record → ℕ → Option Bool
 truth_at fields i = option_map_or truth_of (field_at fields i) (Some false)
 
 -- ---- the fields of a text, one after another ----
 
--- the second, of what the first gives; none where the first gives none
 abbrev pub ◌>>=◌ : {A B : Type 0} → Option A → (A → Option B) → Option B
 o >>= f = option_and_then f o
 
@@ -56,12 +49,12 @@ o >>= f = option_and_then f o
 abbrev pub found_now : {X : Type 0} → Option (X × Bor (List ℕ)) → Option (X × List ℕ)
 found_now {X} found = option_map {T = X × Bor (List ℕ)} (λ f. (f.0, f.1.now)) found
 
--- the field before the first of these bytes, and what stands behind that byte; none where there is none
+-- the field before the first of these bytes, and what stands behind the byte; none, if the byte isn't there
 unfoldable pub first_field : (ending : ℕ) → List ℕ → Option (List ℕ × List ℕ)
 first_field ending text =
     option_map (λ place. (take place text, drop (place + 1) text)) (position (λ byte. byte == ending) text)
 
--- what that field says, if it says something, and what stands behind that byte
+-- what this field says, if anything, and what stands behind the byte
 unfoldable pub first_said : {X : Type 0} → (ending : ℕ) → (List ℕ → Option X) → List ℕ → Option (X × List ℕ)
 first_said ending says text = do
   parts ← first_field ending text

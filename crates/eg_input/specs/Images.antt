@@ -1,5 +1,4 @@
--- An image file has a line for each word of level 1's image, at most 1,024 of them, and each line is four
--- hexadecimal digits and a line feed. `image_words` says what a file is read as. `IsImageOf`, `HasBadLineAt`
+-- The words of an image file (F23, F24). `image_words` says how a file is read. `IsImageOf`, `HasBadLineAt`
 -- and `HasTooManyLines` say by the bytes of a file alone which files are accepted, and which have which
 -- fault.
 use Rattle.std.specs.Prelude.{◌≡◌, ◌≢◌, ◌⊎◌, ℕ, ◌+◌, ◌*◌, ◌-◌, ◌≤◌, List, [], ◌∷◌, ◌++◌, length, drop, take, fold, filter_map, All, codes, Option, Some, None, is_none, option_map, option_and_then, if◌then◌else◌, nat_lt, Result, Ok, Err}
@@ -19,37 +18,37 @@ use Rattle.eg_input.specs.declared.image.TheConstants.{MOST_WORDS}
 abbrev pub Line : Type 0
 Line = List ℕ
 
--- the lines of a file, which is cut after each line feed: what stands behind the last one is a line too
+-- the lines of a file, which is cut after each line feed; what stands behind the last line feed is a line too
 unfoldable pub lines_of : List ℕ → List Line
 lines_of [] = []
 lines_of (byte ∷ bytes) =
     if is_newline byte then (byte ∷ []) ∷ lines_of bytes else onto_first byte (lines_of bytes)
 
--- what stands before the line feed at the end of a line, where one is there
+-- what stands before the line feed at the end of a line, if there is one
 abbrev pub before_line_feed : Line → Option (List ℕ)
 before_line_feed line =
     if bytes_eq (drop (length line - 1) line) (codes "\n") then Some (take (length line - 1) line) else None
 
--- the word that digits write, where they decode to two bytes: the first is the high one
+-- F23: the high byte is first
 unfoldable pub word_of_digits : List ℕ → Option ℕ
 word_of_digits digits = option_map (from_be_bytes w16) (result_ok (decode_sized digits 2))
 
--- the word that a line writes: four hexadecimal digits of either case, and a line feed
+-- F23
 unfoldable pub word_of : Line → Option ℕ
 word_of line = option_and_then word_of_digits (before_line_feed line)
 
--- what the lines give, by the number of the first of them that writes no word, if one does so
+-- F24, by the number of the first line that writes no word
 unfoldable pub words_unless : ℕ → List Line → Option ℕ → Result (List ℕ) ImageFault
 words_unless most lines (Some number) = Err (fault.Line number)
 words_unless most lines None =
     if nat_lt most (length lines) then Err fault.Long else Ok (filter_map word_of lines)
 
--- what the lines of a file that may have `most` of them give; the first line has the number 1
+-- F24, of a file that may have `most` lines; the first line is line 1
 unfoldable pub line_words : ℕ → List Line → Result (List ℕ) ImageFault
 line_words most lines =
     words_unless most lines (position_from (λ line. is_none (word_of line)) 1 (take most lines))
 
--- what a file of up to 1,024 words gives
+-- F23, F24
 abbrev pub image_words : List ℕ → Result (List ℕ) ImageFault
 image_words file = line_words MOST_WORDS (lines_of file)
 
@@ -58,8 +57,7 @@ abbrev pub IsImageRead : Result (List ℕ) ImageFault → Result (Vec ℕ Global
 IsImageRead expected (Ok words) = expected ≡ Ok words.items
 IsImageRead expected (Err e) = (e ≡ fault.Memory) ⊎ (expected ≡ Err e)
 
--- The line is four hexadecimal digits of either case and a line feed. The digits have these values, and they
--- write this word, the first digit weighing most.
+-- F23, with the values of the digits
 pub record WritesWord (line : Line) (word : ℕ) : Type 0 where
   pub digits : List ℕ
   pub values : List ℕ
@@ -68,19 +66,17 @@ pub record WritesWord (line : Line) (word : ℕ) : Type 0 where
   pub written : AllZip (λ digit value. hex_digit_value digit ≡ Some value) digits values
   pub number : word ≡ fold (λ number value. 16 * number + value) 0 values
 
--- the line writes some word
 abbrev pub WritesSome : Line → Type 0
 WritesSome line = (word : ℕ) × WritesWord line word
 
--- the file is 0 to 1,024 lines, each of which writes its word, and nothing else
+-- F23
 pub record IsImageOf (file words : List ℕ) : Type 0 where
   pub lines : List Line
   pub parts : file ≡ concat lines
   pub most : length lines ≤ MOST_WORDS
   pub written : AllZip WritesWord lines words
 
--- The file begins with lines that each write a word, and goes on with something that begins with no such
--- line. What comes there has this number, the first line having 1, and the number is at most 1,024.
+-- F24, Line: behind good lines something comes that begins with no such line
 pub record HasBadLineAt (file : List ℕ) (number : ℕ) : Type 0 where
   pub good : List Line
   pub rest : List ℕ
@@ -91,7 +87,7 @@ pub record HasBadLineAt (file : List ℕ) (number : ℕ) : Type 0 where
   pub at : number ≡ length good + 1
   pub within : number ≤ MOST_WORDS
 
--- the file begins with 1,024 lines that each write a word, and something stands behind them
+-- F24, Long
 pub record HasTooManyLines (file : List ℕ) : Type 0 where
   pub good : List Line
   pub rest : List ℕ

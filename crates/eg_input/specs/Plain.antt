@@ -1,4 +1,4 @@
--- Outside the headline. A plain file: the header's line, and below it lines of numbers, each line ended by
+-- Outside the headline. A plain file: the line of the header, and below it lines of numbers, each ended by
 -- one line feed.
 use Rattle.std.specs.Prelude.{◌≡◌, ℕ, List, ◌∷◌, ◌++◌, length, Bool, true, Option, Some}
 use Rattle.std.specs.Str.{byte}
@@ -12,18 +12,16 @@ use Rattle.eg_input.specs.Rows.{is_header}
 abbrev pub records_below : List ℕ → List Record
 records_below text = records_after state.StartRecord text
 
--- the text begins with a field that is read as this value, and with this byte, and goes on with the rest
+-- the text begins with a field of this value, goes on with this byte, and then with the rest
 pub record BeginsWithField {X : Type 0} (value_of : List ℕ → Option X) (ending : ℕ) (text : List ℕ)
     (value : X) (rest : List ℕ) : Type 0 where
   pub field : List ℕ
   pub parts : text ≡ field ++ ending ∷ rest
   pub written : value_of field ≡ Some value
 
--- the field is a number, at most `most`
 abbrev pub BeginsWithNumber : ℕ → ℕ → List ℕ → ℕ → List ℕ → Type 0
 BeginsWithNumber most = BeginsWithField (number_of most)
 
--- the field is a truth value
 abbrev pub BeginsWithTruth : ℕ → List ℕ → Bool → List ℕ → Type 0
 BeginsWithTruth = BeginsWithField truth_of
 

@@ -1,7 +1,4 @@
--- Outside the headline. A recording of a vehicle or a test bench has a line for each tick, below a header
--- that names its columns. A line has as many fields as there are columns, parted by commas, and each field
--- writes a number of one to five digits, at most 65535. A line may end with a carriage return, which is no
--- part of it; its line feed is taken off already.
+-- Outside the headline. How a line of a recording is read (F13). Its line feed is taken off already.
 use Rattle.std.specs.Prelude.{ℕ, zero, suc, ◌-◌, List, [], ◌∷◌, ◌++◌, length, drop, take, codes, Option, Some, None, option_map, if◌then◌else◌, false, slice_index}
 use Rattle.std.specs.Str.{byte, bytes_eq}
 use Rattle.eg_input.specs.Fields.{number_of, first_said, ◌>>=◌}
@@ -11,27 +8,27 @@ use Rattle.eg_input.specs.declared.columns.Columns.{Columns}
 use Rattle.eg_input.specs.declared.columns.Columns.TheVariants as columns
 use Rattle.eg_input.specs.declared.recorded.Recorded.{Recorded}
 
--- the line without the carriage return that it may end with
+-- F13: a line may end with CR
 unfoldable pub before_return : List ℕ → List ℕ
 before_return line =
     if bytes_eq (drop (length line - 1) line) (codes "\r") then take (length line - 1) line else line
 
--- the names of the columns where the brake isn't recorded
+-- F13, without the brake
 unfoldable pub header : List ℕ
 header = codes "pedal1,pedal2,plate1,plate2,load1,load2,speed1,speed2,raise,check"
 
--- the columns that a first line names
+-- F13, a first line
 unfoldable pub columns_of : List ℕ → Option Columns
 columns_of line =
     if bytes_eq (before_return line) header then Some columns.WithoutBrake
     else if bytes_eq (before_return line) (header ++ codes ",brake1,brake2") then Some columns.WithBrake
     else None
 
--- the number before the first comma of a text, where it is at most `most`, and what stands behind that comma
+-- the number before the first comma of a text, if it is at most `most`, and what stands behind this comma
 abbrev pub first_number : (most : ℕ) → List ℕ → Option (ℕ × List ℕ)
 first_number most = first_said (byte ",") (number_of most)
 
--- The numbers that a line of this many fields writes: each but the last stands before a comma.
+-- F13: the numbers that a line of this many fields writes
 unfoldable pub numbers_of : ℕ → List ℕ → Option (List ℕ)
 numbers_of zero line = None
 numbers_of (suc zero) line = do
@@ -42,7 +39,6 @@ numbers_of (suc (suc more)) line = do
   numbers ← numbers_of (suc more) rest
   Some (number ∷ numbers)
 
--- the readings that stand in the first ten columns
 unfoldable pub readings_from : List ℕ → Readings
 readings_from numbers = record {
   pedal = slice_index numbers 0 ∷ slice_index numbers 1 ∷ [];
@@ -53,8 +49,7 @@ readings_from numbers = record {
   raise_check = slice_index numbers 9;
 }
 
--- What a line below the header writes. Where the brake has no columns, its contacts are those of a sound
--- brake that isn't pressed.
+-- F13, C84: without columns of the brake, its contacts are those of a sound brake that isn't pressed
 unfoldable pub recorded_of : Columns → List ℕ → Option Recorded
 recorded_of columns.WithoutBrake line =
     option_map

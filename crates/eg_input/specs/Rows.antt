@@ -1,7 +1,6 @@
--- A file of rows has one of its headers and below it 1 to 20,000 records that each write a row; of any other
--- file the first fault is told. `file_rows` says what a file is read as, whatever headers it may have and
--- whatever a record writes. `IsFileOf`, `HasNoRowAt` and `IsTooLong` say in the file's words which are
--- accepted, and which have which fault.
+-- The rows of a file of records, or its refusal (F9, F11). `file_rows` says how a file is read, whatever its
+-- headers and its rows may be. `IsFileOf`, `HasNoRowAt` and `IsTooLong` say in the file's words which files
+-- are accepted, and which have which fault.
 use Rattle.std.specs.Prelude.{◌≡◌, ◌⊎◌, ℕ, ◌+◌, ◌<◌, ◌≤◌, List, [], ◌∷◌, ◌++◌, length, take, Bool, All, Option, Some, None, IsSome, is_none, if◌then◌else◌, nat_lt, Result, Ok, Err, filter_map}
 use Rattle.std.specs.List.{AllZip, list_any, position_from}
 use Rattle.std.specs.declared.vec.Vec.{Vec}
@@ -10,7 +9,7 @@ use Rattle.eg_input.specs.Records.{Record, RowRule, is_same_record}
 use Rattle.eg_input.specs.declared.fault.TraceFault.{TraceFault}
 use Rattle.eg_input.specs.declared.fault.TraceFault.TheVariants as fault
 
--- what the records below the header give, by the number of the first of them that writes no row, if one does
+-- F11, by the number of the first record that writes no row
 unfoldable pub rows_unless :
     {X : Type 0} → ℕ → RowRule X → List Record → Option ℕ → Result (List X) TraceFault
 rows_unless most row_of below (Some number) = Err (fault.Row number)
@@ -19,17 +18,15 @@ rows_unless most row_of below None =
     else if nat_lt 0 (length below) then Ok (filter_map row_of below)
     else Err fault.Empty
 
--- what the records below the header give, of which there may be `most`; the first of them has the number 2
+-- F11, Row, Long and Empty; `most` records may stand below the header, and the first of them is record 2
 unfoldable pub rows_below : {X : Type 0} → ℕ → RowRule X → List Record → Result (List X) TraceFault
 rows_below most row_of below =
     rows_unless most row_of below (position_from (λ r. is_none (row_of r)) 2 (take most below))
 
--- whether a record is one of these headers
 unfoldable pub is_header : List Record → Record → Bool
 is_header headers r = list_any (is_same_record r) headers
 
--- what a file gives that may begin with any of these headers: the header's number of fields tells how the
--- records below it are read
+-- F9, F11; the number of fields of the header says how the records below it are read
 unfoldable pub file_rows : {X : Type 0} → List Record → (ℕ → RowRule X) → List Record →
     Result (List X) TraceFault
 file_rows headers row_of [] = Err fault.Header
@@ -41,7 +38,7 @@ abbrev pub IsRead : {X : Type 0} → Result (List X) TraceFault → Result (Vec 
 IsRead expected (Ok rows) = expected ≡ Ok rows.items
 IsRead expected (Err e) = (e ≡ fault.Memory) ⊎ (expected ≡ Err e)
 
--- the file is the header and 1 to 20,000 more records, each of which writes its row
+-- F9
 pub record IsFileOf {X : Type 0} (header : Record) (row_of : RowRule X) (file : List Record)
     (rows : List X) : Type 0 where
   pub below : List Record
@@ -50,7 +47,7 @@ pub record IsFileOf {X : Type 0} (header : Record) (row_of : RowRule X) (file : 
   pub most : length below ≤ 20000
   pub written : AllZip (λ r row. row_of r ≡ Some row) below rows
 
--- the record of this number, the header's being 1, is the first below the header that writes no row
+-- F11, Row
 pub record HasNoRowAt {X : Type 0} (header : Record) (row_of : RowRule X) (file : List Record)
     (number : ℕ) : Type 0 where
   pub good : List Record
@@ -62,7 +59,7 @@ pub record HasNoRowAt {X : Type 0} (header : Record) (row_of : RowRule X) (file 
   pub at : number ≡ length good + 2
   pub within : number ≤ 20001
 
--- more than 20,000 records stand below the header, and each of the first 20,000 writes a row
+-- F11, Long
 pub record IsTooLong {X : Type 0} (header : Record) (row_of : RowRule X) (file : List Record) : Type 0 where
   pub below : List Record
   pub parts : file ≡ header ∷ below

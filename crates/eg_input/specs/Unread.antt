@@ -12,8 +12,9 @@ use Rattle.eg_input.specs.Records.{Record}
 abbrev pub records_after : State → List ℕ → List Record
 records_after state text = records_from default_config (length text + 1) state text
 
--- A reader over bytes in memory stands between two records, and these are the ones that it has not read yet.
--- The reader takes no record for a header, trims nothing, and refuses no record for its number of fields.
+-- A reader over bytes in memory stands between two records, and these are the records that it has not read
+-- yet. The reader takes no record for a header, trims nothing, and refuses no record for its number of
+-- fields.
 pub record HasUnread (reader : Reader (Bor (List ℕ))) (left : List Record) : Type 0 where
   pub config : reader_config reader ≡ default_config
   pub trim : reader_trim reader ≡ trim.None

@@ -3,9 +3,9 @@ use Rattle.std.specs.Prelude.{ℕ, false, List, Option, Some, None, option_map, 
 use Rattle.eg_lines.specs.Lines.{ShownLines, lines_in}
 use Rattle.eg_lines.specs.Readers.{ReaderState}
 
--- Where the reader tells these bytes, or none: before the first line is asked for, their lines, and no fault;
--- from then on what is left to the source that was made of the reader, and its faults. Lines are told exactly
--- if the reader told its bytes at the start.
+-- `bytes` are those that the reader tells, if it tells them. Before the first line is asked for, their lines
+-- are shown, and no fault; from then on what is left to the source that was made of the reader, and its
+-- faults. Lines are told exactly if the reader told its bytes at the start.
 abbrev pub shown_late : (bytes : Option (List ℕ)) → (made : Option ReaderState) → ShownLines
 shown_late bytes None = record { lines = option_map lines_in bytes; faults = 0; sure = false }
 shown_late bytes (Some made) =

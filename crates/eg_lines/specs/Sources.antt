@@ -15,8 +15,7 @@ pub record LinesState : Type 0 where
 abbrev pub next_fails : LinesState → Bool
 next_fails source = option_map_or (λ number. number == source.reads) source.failing false
 
--- the source after a read that left it these lines: one read more, and where it failed the count of faults
--- rises
+-- the source after a read that left these lines; if the read failed, the count of faults rises
 abbrev pub after_next : LinesState → List (List ℕ) → LinesState
 after_next source left = record source {
   lines = left;
@@ -24,8 +23,8 @@ after_next source left = record source {
   faults = if next_fails source then next_count source.faults else source.faults;
 }
 
--- what a read that isn't refused answers, leaves and appends: the first line came where there was one, and
--- its first `most` bytes are appended
+-- what a read that isn't refused answers, leaves and appends: the first line came, if there was one, and its
+-- first `most` bytes are appended
 abbrev pub Gives : ℕ → List (List ℕ) → Bool → List (List ℕ) → List ℕ → List ℕ → Type 0
 Gives most [] came left old new = (came ≡ false) × (left ≡ []) × (new ≡ old)
 Gives most (line ∷ lines) came left old new = (came ≡ true) × (left ≡ lines) × (new ≡ old ++ take most line)

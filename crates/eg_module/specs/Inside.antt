@@ -22,7 +22,7 @@ parts_of m = record {
   value = m.counter.value;
 }
 
--- what the program keeps of it: also the number of the question of the period that has no verdict yet
+-- what the program keeps: also the number of the question of the period that has no verdict yet
 pub record IsKept (m : Inside) : Type 0 where
   pub keeps : IsMonitor (parts_of m)
   pub question : m.question ≡ m.verdicts % length m.questions

@@ -1,4 +1,4 @@
--- Outside the headline. What the monitoring module keeps, and which verdicts it stands for.
+-- Outside the headline. What the monitoring module keeps (C33, C34), and which verdicts it stands for.
 use Rattle.std.specs.Prelude.{◌≡◌, ℕ, ◌≤◌, ◌<◌, List, [], ◌∷◌, All, length, map}
 use Rattle.eg_num.specs.Windows.{AreWeights}
 use Rattle.eg_num.specs.Counting.{StandsFor}
@@ -7,8 +7,8 @@ use Rattle.eg_answer.specs.Periods.{HeardAnswer, period_of, expected_number, is_
 use Rattle.eg_answer.specs.declared.questions.Question.{Question}
 use Rattle.eg_answer.specs.declared.marks.Verdict.{Verdict}
 
--- the times and the questions of a monitoring module, how many verdicts it has given, the answers that it has
--- heard since the last one, newest first, and the value of the counter of wrong verdicts
+-- `verdicts` is how many verdicts were given, `heard` the answers since the last verdict, newest first, and
+-- `value` that of the counter of wrong verdicts (C10)
 pub record MonitorParts : Type 0 where
   pub times : TimeParts
   pub questions : List Question
@@ -22,7 +22,7 @@ AreInTurn [] = Unit {0}
 AreInTurn (answer ∷ before) = All (λ earlier. earlier.tick < answer.tick) before × AreInTurn before
 
 -- What a monitoring module always keeps. The answers that it holds came one after another, in the one period
--- that has no verdict yet.
+-- that has no verdict yet (C33).
 pub record IsMonitor (m : MonitorParts) : Type 0 where
   pub times : AreTimes m.times
   pub weights : AreWeights m.times.weights
@@ -36,6 +36,6 @@ pub record HasGiven (m : MonitorParts) (verdicts : List Verdict) : Type 0 where
   pub count : m.verdicts ≡ length verdicts
   pub counter : StandsFor m.times.weights m.value (map is_wrong verdicts)
 
--- the number that the monitoring module expects in the period of a tick
+-- C32, C33: the number that is expected in the period of a tick
 abbrev pub expected_at : MonitorParts → ℕ → ℕ
 expected_at m tick = expected_number m.times m.questions tick

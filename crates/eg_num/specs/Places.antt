@@ -1,22 +1,20 @@
--- At a place of the feeds the limit is reached where some window that ends there weighs at least that much,
--- and confirmed where it was reached there or before. This is debouncing as a reader of the rule says it: the
--- list stands in the order of time, the first feed at place 0. It is the same rule as that of `Windows`,
--- whose lists stand newest first.
+-- Debouncing (C9) in the order of time: the first feed of a list stands at place 0. The rule is that of
+-- `Windows`, whose lists stand newest first.
 use Rattle.std.specs.Prelude.{◌≡◌, ◌⊎◌, ◌↔◌, ℕ, ◌+◌, ◌*◌, ◌≤◌, ◌<◌, Bool, not, IsTrue, List, length, take, reverse, slice_range, count_by, Option, MatchOption}
 use Rattle.eg_num.specs.Windows.{WeightParts, AreWeights, is_reached, is_confirmed, is_first, first_index}
 use Rattle.eg_num.specs.Counting.{fed_all}
 
--- the places a to b weigh at least n: up for each bad feed among them, less down for each good one
+-- C9: the window of places a to b weighs at least n
 abbrev pub WeighsAtLeast : WeightParts → List Bool → ℕ → ℕ → ℕ → Type 0
 WeighsAtLeast w bits a b n =
     let window = slice_range bits a (b + 1) in
     n + w.down * count_by not window ≤ w.up * count_by (λ bad. bad) window
 
--- some window that ends at place t weighs at least the limit
+-- C9: the limit is reached at place t
 abbrev pub IsReachedAt : WeightParts → List Bool → ℕ → Type 0
 IsReachedAt w bits t = (t < length bits) × (a : ℕ) × (a ≤ t) × WeighsAtLeast w bits a t w.limit
 
--- the limit is reached at some place up to t
+-- C9: the bad bit is confirmed by place t
 abbrev pub IsConfirmedBy : WeightParts → List Bool → ℕ → Type 0
 IsConfirmedBy w bits t = (s : ℕ) × (s ≤ t) × IsReachedAt w bits s
 
@@ -25,7 +23,7 @@ pub record IsFirstAt (w : WeightParts) (bits : List Bool) (t : ℕ) : Type 0 whe
   pub reached : IsReachedAt w bits t
   pub least : (s : ℕ) → s < t → ¬ IsReachedAt w bits s
 
--- the least place at which the limit is reached, or none where there is no such place
+-- the least place at which the limit is reached, or none
 abbrev pub IsFirst : WeightParts → List Bool → Option ℕ → Type 0
 IsFirst w bits first = MatchOption first ((t : ℕ) → ¬ IsReachedAt w bits t) (IsFirstAt w bits)
 
@@ -52,6 +50,6 @@ pub record Agree (w : WeightParts) (bits : List Bool) : Type 0 where
   pub least : IsFirst w bits (first_index w (reverse bits))
   pub one : (first : Option ℕ) → IsFirst w bits first → first ≡ first_index w (reverse bits)
 
--- the law: they agree for all weights and all lists
+-- The law: the rules agree for all weights and all lists.
 abbrev pub PlaceLaw : Type 0
 PlaceLaw = (w : WeightParts) → AreWeights w → (bits : List Bool) → Agree w bits

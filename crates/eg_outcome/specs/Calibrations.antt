@@ -1,5 +1,4 @@
--- The calibration of a command is what the file behind `--cal` says, or else the reference calibration; where
--- that file can't be read or is refused, the call ends with that.
+-- What comes of the calibration of a command (F2, F4): its parts, or how the call ends without them.
 use Rattle.std.specs.Prelude.{◌≡◌, ℕ, List, Option, Some, None, Result, Ok}
 use Rattle.eg_base.specs.Outside.{ShownStore, IsMissing}
 use Rattle.eg_toml.specs.Documents.{document_of}
@@ -16,25 +15,22 @@ use Rattle.eg_outcome.specs.declared.outcome.Refusal.{Refusal}
 use Rattle.eg_outcome.specs.declared.outcome.Refusal.TheVariants as refusal
 use Rattle.eg_outcome.specs.declared.outcome.Role.TheVariants as role
 
--- what the bytes of a calibration file say, by the rules of eg_cal
 unfoldable pub calibration_said : List ℕ → Result CalibrationParts CalFault
 calibration_said bytes = calibration_of (document_of bytes)
 
--- the calibration that the bytes of a file say, or why they are refused
 abbrev pub calibration_or_refusal : List ℕ → Result CalibrationParts Refusal
 calibration_or_refusal bytes = refused refusal.Calibration (calibration_said bytes)
 
--- how a call ends with a fault of a calibration file: running out of memory is no refusal
+-- F3: memory that ran out is no refusal
 abbrev pub calibration_end : CalFault → Outcome
 calibration_end cal_fault.Memory = outcome.Memory
 calibration_end fault = outcome.Refused (refusal.Calibration fault)
 
--- the calibration of a file, or its first refusal
+-- F21
 abbrev pub calibration_file : List ℕ → Result CalibrationParts Refusal
 calibration_file = sized role.Calibration calibration_or_refusal
 
--- What comes of the calibration that a command uses: its parts, or how the call ends without one. Where no
--- file is named it is the reference calibration.
+-- F2: without a named file the calibration is the reference calibration
 abbrev pub CalibrationComes :
     Option (List ℕ) → Change ShownStore → Result CalibrationParts Outcome → Type 0
 CalibrationComes (Some name) store come = FileComes role.Calibration calibration_file name store come
@@ -42,17 +38,14 @@ CalibrationComes None store come = come ≡ Ok reference_parts
 
 -- ---- when it is there, and when it is accepted ----
 
--- the file behind `--cal` isn't there
 abbrev pub MissesCalibration : Option (List ℕ) → ShownStore → Type 0
 MissesCalibration (Some name) store = IsMissing store.files name
 MissesCalibration None store = ⊥
 
--- the file behind `--cal` is found
 abbrev pub FindsCalibration : Option (List ℕ) → Change ShownStore → Type 0
 FindsCalibration (Some name) store = Finds name store
 FindsCalibration None store = Unit {0}
 
--- whatever a read of the file behind `--cal` may give is accepted
 abbrev pub AcceptsCalibration : Option (List ℕ) → ShownStore → Type 0
 AcceptsCalibration (Some name) store = Accepts calibration_file name store
 AcceptsCalibration None store = Unit {0}

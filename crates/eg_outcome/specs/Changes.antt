@@ -1,8 +1,7 @@
--- A call is told by what its store, its output and its count of ticks show before it and after it.
+-- A call is described by what its store, its output and its count of ticks show before it and after it.
 use Rattle.std.specs.Prelude.{◌≡◌}
 use Rattle.eg_base.specs.Outside.{ShownStore}
 
--- what something shows before a call, and after it
 pub record Change (X : Type 0) : Type 0 where
   pub before : X
   pub after : X
@@ -10,11 +9,9 @@ pub record Change (X : Type 0) : Type 0 where
 abbrev pub change : {X : Type 0} → X → X → Change X
 change before after = record { before = before; after = after }
 
--- the change of what these show
 abbrev pub change_of : {A X : Type 0} → (A → X) → A → A → Change X
 change_of shows before after = change (shows before) (shows after)
 
--- after the call it is what it was before
 abbrev pub Stays : {X : Type 0} → Change X → Type 0
 Stays it = it.after ≡ it.before
 

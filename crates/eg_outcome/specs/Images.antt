@@ -1,5 +1,4 @@
--- The image file of a run says the words of level 1, or has a first refusal: of its size, or else of its
--- lines.
+-- What the bytes of the image of a run say: the words of level 1 (F23), or the first refusal (F24).
 use Rattle.std.specs.Prelude.{ℕ, List, Result}
 use Rattle.eg_input.specs.Images.{image_words}
 use Rattle.eg_input.specs.declared.fault.ImageFault.{ImageFault}
@@ -11,15 +10,14 @@ use Rattle.eg_outcome.specs.declared.outcome.Refusal.{Refusal}
 use Rattle.eg_outcome.specs.declared.outcome.Refusal.TheVariants as refusal
 use Rattle.eg_outcome.specs.declared.outcome.Role.TheVariants as role
 
--- the words that the bytes of the image of run n say, or why they are refused
 abbrev pub image_or_refusal : ℕ → List ℕ → Result (List ℕ) Refusal
 image_or_refusal n bytes = refused (refusal.Image n) (image_words bytes)
 
--- how a call ends with a fault of the image of run n: running out of memory is no refusal
+-- F3: memory that ran out is no refusal
 abbrev pub image_end : ℕ → ImageFault → Outcome
 image_end n image_fault.Memory = outcome.Memory
 image_end n fault = outcome.Refused (refusal.Image n fault)
 
--- the words of the image of run n, or its first refusal
+-- F24, of the image of run n
 abbrev pub image_file : ℕ → List ℕ → Result (List ℕ) Refusal
 image_file n = sized (role.Image n) (image_or_refusal n)

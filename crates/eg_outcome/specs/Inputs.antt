@@ -1,5 +1,5 @@
--- The files of runs are read in their order, of each run its trace and then its image, and the call ends at
--- the first that fails or is refused. It ends too where the ticks of the runs so far are too many.
+-- What comes of the files of runs: they are read in the order of F4, and the sum of their ticks is limited
+-- (F18).
 use Rattle.std.specs.Prelude.{◌≡◌, ℕ, ◌+◌, List, [], ◌∷◌, length, Option, Some, None, Result, Ok, Err}
 use Rattle.eg_base.specs.Outside.{ShownStore}
 use Rattle.eg_num.specs.Drive.{DriveRow}
@@ -24,21 +24,20 @@ use Rattle.eg_outcome.specs.Campaigns.{trace_file}
 abbrev pub input_of : RunPlan → List DriveRow → List ℕ → RunInput
 input_of plan drive words = record { plan = plan; drive = drive; image = words }
 
--- the image of run n is read, where its drive is known
+-- once the drive of run n is known, its image is read
 abbrev pub ImageComes :
     Change ShownStore → ℕ → RunPlan → List DriveRow → Result RunInput Outcome → Type 0
 ImageComes store n plan drive come = (image : Result (List ℕ) Outcome)
     × FileComes (role.Image n) (image_file n) plan.image store image
     × Then (λ words made. made ≡ Ok (input_of plan drive words)) image come
 
--- where the count of its ticks is refused, the call ends before the image is read
+-- a count of ticks is refused before the image is read (F4)
 abbrev pub TicksCome : Option Refusal → Change ShownStore → ℕ → RunPlan → List DriveRow
     → Result RunInput Outcome → Type 0
 TicksCome (Some r) store n plan drive come = (come ≡ Err (outcome.Refused r)) × MeetsNoFault store
 TicksCome None store n plan drive come = ImageComes store n plan drive come
 
--- What comes of the files of run n: first its trace, then its image. `refuses` tells which counts of ticks
--- are refused.
+-- F4: first the trace of run n, then its image. `refuses` says which counts of ticks are refused.
 abbrev pub InputComes :
     (ℕ → Option Refusal) → Change ShownStore → ℕ → RunPlan → Result RunInput Outcome → Type 0
 InputComes refuses store n plan come = (trace : Result (List DriveRow) Outcome)
@@ -51,21 +50,21 @@ abbrev pub refusal_in : Result ℕ CampaignFault → Option Refusal
 refusal_in (Ok sum) = None
 refusal_in (Err fault) = Some (refusal.Campaign fault)
 
--- run n is refused where its ticks with those of the runs before it, `sum`, are more than 1,000,000
+-- F18; `sum` is the ticks of the runs before run n
 abbrev pub too_many : ℕ → ℕ → ℕ → Option Refusal
 too_many sum n count = refusal_in (sum_with sum n count)
 
--- the same where a sum is kept, and no refusal where none is
+-- without a sum no count is refused
 abbrev pub refusing : Option ℕ → ℕ → ℕ → Option Refusal
 refusing (Some sum) n count = too_many sum n count
 refusing None n count = None
 
--- a result, with the outcome of its end
+-- a result, of whose end only the outcome is kept
 abbrev pub outcomes : {X : Type 0} → Result X End → Result X Outcome
 outcomes (Ok x) = Ok x
 outcomes (Err end) = Err end.outcome
 
--- What comes of the files of the runs from run n on, in their order, where the runs before have `sum` ticks.
+-- F4, F18: the inputs of the runs from run n on; `sum` is the ticks of the runs before
 abbrev pub InputsCome :
     Change ShownStore → ℕ → ℕ → List RunPlan → Result (List RunInput) Outcome → Type 0
 InputsCome store n sum [] come = come ≡ Ok []
@@ -77,7 +76,6 @@ InputsCome store n sum (plan ∷ plans) come = (first : Result RunInput Outcome)
 
 -- ---- when they are there, and when they are accepted ----
 
--- the files of a run are found
 abbrev pub FindsInput : Change ShownStore → RunPlan → Type 0
 FindsInput store plan = Finds plan.trace store × Finds plan.image store
 
@@ -87,12 +85,12 @@ AcceptsInput refuses store n plan = Accepts (trace_file n) plan.trace store
     × Accepts (image_file n) plan.image store × ((drive : List DriveRow)
     → ReadComes (trace_file n) plan.trace store (Ok drive) → refuses (length drive) ≡ None)
 
--- the files of all runs are found
 abbrev pub FindsRuns : Change ShownStore → List RunPlan → Type 0
 FindsRuns store [] = Unit {0}
 FindsRuns store (plan ∷ plans) = FindsInput store plan × FindsRuns store plans
 
--- the same is accepted of all runs from run n on, in their order, where the runs before have `sum` ticks
+-- whatever reads of the files of the runs from run n on may give is accepted (F18); `sum` is the ticks of the
+-- runs before
 abbrev pub AcceptsRuns : ShownStore → ℕ → ℕ → List RunPlan → Type 0
 AcceptsRuns store n sum [] = Unit {0}
 AcceptsRuns store n sum (plan ∷ plans) = AcceptsInput (too_many sum n) store n plan

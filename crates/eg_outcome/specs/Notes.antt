@@ -1,4 +1,4 @@
--- Outside the headline. The one line that notes how a call ended. A call that did its work gets none.
+-- Outside the headline. The note on how a call ended (F6). A call that ends Done has no note.
 use Rattle.std.specs.Prelude.{ℕ, List, [], ◌++◌, codes, decimal, IsTrue}
 use Rattle.eg_base.specs.Outside.{ShownSink, Rose, Appends, AppendsPrefix}
 use Rattle.eg_input.specs.declared.fault.TraceFault.{TraceFault}
@@ -26,11 +26,10 @@ use Rattle.eg_outcome.specs.Shown.{shown_name}
 
 -- ---- the line ----
 
--- the line that says this of a file of this name
 abbrev pub line_of : (file text : List ℕ) → List ℕ
 line_of file text = shown_name file ++ (codes ": " ++ (text ++ codes "\n"))
 
--- what is said of a calibration's fault
+-- F21
 abbrev pub calibration_says : CalFault → List ℕ
 calibration_says cal_fault.Memory = codes "no memory"
 calibration_says cal_fault.Text = codes "not TOML"
@@ -40,7 +39,7 @@ calibration_says (cal_fault.Rising row) = codes "row " ++ decimal row ++ codes "
 calibration_says cal_fault.Window = codes "answer window"
 calibration_says (cal_fault.Answer index) = codes "answer " ++ decimal index
 
--- what is said of a fault of the records of a check file or a trace
+-- F11, F14
 abbrev pub trace_says : TraceFault → List ℕ
 trace_says trace_fault.Memory = codes "no memory"
 trace_says trace_fault.Header = codes "header"
@@ -48,25 +47,25 @@ trace_says (trace_fault.Row line) = codes "record " ++ decimal line
 trace_says trace_fault.Empty = codes "no records"
 trace_says trace_fault.Long = codes "more than 20000 records"
 
--- what is said of an answer that breaks a law of engines
+-- F37
 abbrev pub answer_says : AnswerFault → List ℕ
 answer_says (answer_fault.LoadBelowTorque n) = codes "load below torque in record " ++ decimal n
 answer_says (answer_fault.TorqueWhileOff n) = codes "torque with the stages off in record " ++ decimal n
 
--- what is said of an image's fault
+-- F24
 abbrev pub image_says : ImageFault → List ℕ
 image_says image_fault.Memory = codes "no memory"
 image_says (image_fault.Line line) = codes "line " ++ decimal line
 image_says image_fault.Long = codes "more than 1024 lines"
 
--- what is said of a source's fault
+-- F27
 abbrev pub source_says : AsmFault → List ℕ
 source_says asm_fault.Memory = codes "no memory"
 source_says (asm_fault.Line line) = codes "line " ++ decimal line
 source_says (asm_fault.Label line) = codes "label in line " ++ decimal line
 source_says asm_fault.Long = codes "more than 1024 words"
 
--- what is said of a campaign's fault
+-- F17, F18
 abbrev pub campaign_says : CampaignFault → List ℕ
 campaign_says campaign_fault.Memory = codes "no memory"
 campaign_says campaign_fault.Text = codes "not TOML"
@@ -76,7 +75,7 @@ campaign_says (campaign_fault.Name n) = codes "run " ++ decimal n ++ codes " rep
 campaign_says campaign_fault.Many = codes "more than 1000 runs"
 campaign_says (campaign_fault.Ticks n) = codes "run " ++ decimal n ++ codes " passes 1000000 ticks"
 
--- the line that says this, for a file of this name
+-- the note that a value of the code says, for a file of this name
 abbrev pub line_said : Says → List ℕ → List ℕ
 line_said (says.Words words) file = line_of file words.now
 line_said (says.Number before n) file = line_of file (before.now ++ decimal n)
@@ -85,7 +84,7 @@ line_said (says.Key before key) file = line_of file (before.now ++ key.now)
 line_said (says.RunKey n key) file = line_of file (codes "run " ++ decimal n ++ codes " key " ++ key.now)
 line_said (says.Alone words) file = words.now ++ codes "\n"
 
--- the line that notes a refusal, for a file of this name
+-- F6, the notes of status 4
 abbrev pub refusal_note : Refusal → List ℕ → List ℕ
 refusal_note (refusal.Size _) file = line_of file (codes "longer than 4194304 bytes")
 refusal_note (refusal.Calibration fault) file = line_of file (calibration_says fault)
@@ -98,7 +97,7 @@ refusal_note (refusal.Source fault) file = line_of file (source_says fault)
 refusal_note (refusal.Answer fault) file = line_of file (answer_says fault)
 refusal_note refusal.Grid file = codes "grid too large\n"
 
--- the line that notes an outcome, for a file of this name
+-- F6
 abbrev pub note_of : Outcome → List ℕ → List ℕ
 note_of outcome.Done file = []
 note_of outcome.Usage file = codes "not a command of egasim\n"
@@ -109,8 +108,7 @@ note_of outcome.Memory file = codes "no memory\n"
 
 -- ---- how it is put ----
 
--- the line or a prefix of it was put, and the whole line where the output is sure and counts no fault in the
--- call
+-- The note or a prefix of it was put; the whole note, if the output is sure and counts no fault in the call.
 pub record PutsNote (notes : Change ShownSink) (line : List ℕ) : Type 0 where
   pub prefix : AppendsPrefix notes.before notes.after line
   pub whole : IsTrue notes.before.sure → ¬ Rose notes.before.faults notes.after.faults →

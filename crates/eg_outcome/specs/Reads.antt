@@ -1,5 +1,5 @@
--- A file gives the value or the first refusal that its bytes say, or reading it fails, over a sure store only
--- where it is missing, or memory runs out. `says` is what the bytes of a file of a kind say.
+-- What comes of a file that is read (F3, F7): what its bytes say, or how the call ends. `says` is what the
+-- bytes of a kind of file say.
 use Rattle.std.specs.Prelude.{◌≡◌, ◌⊎◌, ◌↔◌, ℕ, List, IsTrue, IsOk, IfErr, Result, Ok, Err, if◌then◌else◌}
 use Rattle.eg_base.specs.Outside.{ShownStore, Rose, IsMissing}
 use Rattle.eg_outcome.specs.Changes.{Change, Stays, MeetsNoFault}
@@ -11,21 +11,18 @@ use Rattle.eg_outcome.specs.declared.outcome.Refusal.TheVariants as refusal
 use Rattle.eg_outcome.specs.declared.outcome.Role.{Role}
 use Rattle.eg_outcome.specs.Outcomes.{TellsNoMemory}
 
--- a value, or what a fault comes to: a refusal of the file, or an end of the call
 abbrev pub refused : {X Fault End : Type 0} → (Fault → End) → Result X Fault → Result X End
 refused why (Ok x) = Ok x
 refused why (Err fault) = Err (why fault)
 
--- what the bytes of a file say, or its first refusal: of its size, or else by the rules of its kind
+-- F7: Size comes before the rules of the kind
 abbrev pub sized : {X : Type 0} → Role → (List ℕ → Result X Refusal) → List ℕ → Result X Refusal
 sized file says bytes = if is_too_long bytes then Err (refusal.Size file) else says bytes
 
--- the bytes themselves, unless there are too many
 abbrev pub whole : Role → List ℕ → Result (List ℕ) Refusal
 whole file = sized file (λ bytes. Ok bytes)
 
--- once the bytes of the file are known: it is accepted with this value, or refused by its first refusal, or
--- memory ran out
+-- once the bytes are known: the file is accepted with this value, or refused, or memory ran out
 abbrev pub BytesCome : {X : Type 0} → (List ℕ → Result X Refusal) → List ℕ → Result X Outcome → Type 0
 BytesCome says bytes (Ok x) = says bytes ≡ Ok x
 BytesCome says bytes (Err (outcome.Refused r)) = says bytes ≡ Err r
@@ -37,9 +34,9 @@ abbrev pub ReadComes : {X : Type 0} → (List ℕ → Result X Refusal) → List
     → Type 0
 ReadComes says name store come = (bytes : List ℕ) × AreRead store name bytes × BytesCome says bytes come
 
--- Reading the file of this name failed, or memory ran out, or the file was read. Where the call ends with the
--- refusal of what was read, or since memory ran out, no fault of reading was met; where it goes on, the work
--- says which were. Over a sure store reading fails only where there is no such file.
+-- What comes of the file of this name. If the file is refused or memory runs out, no fault of reading was
+-- met; if a value comes, the work says whether one was. Over a sure store reading fails only if there is no
+-- such file.
 abbrev pub FileComes : {X : Type 0} → Role → (List ℕ → Result X Refusal) → List ℕ → Change ShownStore
     → Result X Outcome → Type 0
 FileComes file says name store (Ok x) = ReadComes says name store.before (Ok x)
@@ -51,8 +48,8 @@ FileComes file says name store (Err end) = MeetsNoFault store × ReadComes says 
 
 -- ---- what a call that reads tells and leaves ----
 
--- What comes of the file of this name; over a sure store it can't be read exactly if there is no such
--- file; and no refusal tells that memory ran out.
+-- What comes of the file of this name. Over a sure store reading fails exactly if there is no such file. No
+-- refusal says that memory ran out.
 pub record ReadsFile {X : Type 0} (file : Role) (says : List ℕ → Result X Refusal) (name : List ℕ)
     (store : Change ShownStore) (come : Result X Outcome) : Type 0 where
   pub comes : FileComes file says name store come
@@ -60,13 +57,13 @@ pub record ReadsFile {X : Type 0} (file : Role) (says : List ℕ → Result X Re
       ((come ≡ Err (outcome.ReadFault file)) ↔ IsMissing store.before.files name)
   pub no_memory : IfErr come TellsNoMemory
 
--- what the bytes of a file come to, and no refusal tells that memory ran out
+-- what the bytes of a file come to; no refusal says that memory ran out
 pub record Says {X : Type 0} (says : List ℕ → Result X Refusal) (bytes : List ℕ) (come : Result X Outcome) :
     Type 0 where
   pub comes : BytesCome says bytes come
   pub no_memory : IfErr come TellsNoMemory
 
--- no file changes; and where a value comes, nothing that the store shows changes
+-- F5: no file changes. If a value comes, nothing that the store shows changes.
 pub record KeepsFiles {X E : Type 0} (store : Change ShownStore) (come : Result X E) : Type 0 where
   pub files : store.after.files ≡ store.before.files
   pub shown : IsOk come → Stays store

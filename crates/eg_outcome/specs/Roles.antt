@@ -1,4 +1,4 @@
--- Outside the headline. The file that an outcome speaks of.
+-- Outside the headline. The role of the file that an outcome speaks of, if it speaks of one (F6).
 use Rattle.std.specs.Prelude.{Option, Some, None}
 use Rattle.eg_outcome.specs.declared.outcome.Outcome.{Outcome}
 use Rattle.eg_outcome.specs.declared.outcome.Outcome.TheVariants as outcome
@@ -6,7 +6,6 @@ use Rattle.eg_outcome.specs.declared.outcome.Refusal.TheVariants as refusal
 use Rattle.eg_outcome.specs.declared.outcome.Role.{Role}
 use Rattle.eg_outcome.specs.declared.outcome.Role.TheVariants as role
 
--- the role of the file that an outcome speaks of, if it speaks of one
 abbrev pub role_in : Outcome → Option Role
 role_in (outcome.ReadFault file) = Some file
 role_in (outcome.Refused (refusal.Size file)) = Some file

@@ -1,4 +1,4 @@
--- What `run`, `table`, `margins`, `record`, `sweep` and `couple` read: a campaign, and the files of its runs.
+-- What comes of a campaign and of the files of its runs (F4).
 use Rattle.std.specs.Prelude.{◌≡◌, ℕ, Bool, true, false, map, ◌+◌, ◌-◌, length, List, [], ◌∷◌, Option, Some, None, option_map, Result, Ok, Err, IsSome, IsTrue, IfErr, slice_get, bytes_eq, if◌then◌else◌}
 use Rattle.eg_base.specs.Outside.{ShownStore, IsMissing}
 use Rattle.eg_num.specs.Drive.{DriveRow}
@@ -23,13 +23,13 @@ use Rattle.eg_outcome.specs.Inputs.{ImageComes, InputComes, InputsCome, FindsInp
 
 -- ---- which runs are played ----
 
--- the campaign is read, and then the files of all its runs, in their order
+-- F3, F4, of `run`, `table` and `margins`
 abbrev pub RunsCome : (campaign : List ℕ) → Change ShownStore → Result (List RunInput) Outcome → Type 0
 RunsCome campaign store come = (plans : Result (List RunPlan) Outcome)
     × FileComes role.Campaign campaign_file campaign store plans
     × Then (λ found made. InputsCome store 1 0 found made) plans come
 
--- the first run of this name, with its number, where n is the number of the first run of the list
+-- the first run of this name, with its number; the first run of the list has number n
 abbrev pub run_named : List ℕ → ℕ → List RunPlan → Option (ℕ × RunPlan)
 run_named name n [] = None
 run_named name n (plan ∷ plans) =
@@ -40,23 +40,23 @@ abbrev pub FindsNamed : (campaign name : List ℕ) → ShownStore → ℕ × Run
 FindsNamed campaign name store found = (plans : List RunPlan)
     × ReadComes campaign_file campaign store (Ok plans) × (run_named name 1 plans ≡ Some found)
 
--- there is no run of that name, or its files are read; no count of ticks is refused here
+-- F4: there is no such run, or its files are read. No count of ticks is refused here (F18).
 abbrev pub FoundComes : Option (ℕ × RunPlan) → Change ShownStore → Result RunInput Outcome → Type 0
 FoundComes None store come = (come ≡ Err (outcome.Refused refusal.NoRun)) × MeetsNoFault store
 FoundComes (Some found) store come = InputComes (λ count. None) store found.0 found.1 come
 
--- the campaign is read, and then the files of its run of that name
+-- F4, of `record`
 abbrev pub NamedComes : (campaign name : List ℕ) → Change ShownStore → Result RunInput Outcome → Type 0
 NamedComes campaign name store come = (plans : Result (List RunPlan) Outcome)
     × FileComes role.Campaign campaign_file campaign store plans
     × Then (λ found made. FoundComes (run_named name 1 found) store made) plans come
 
--- a grid is refused where it is too large
+-- F4, Grid
 abbrev pub GridComes : (is_too_large : Bool) → Change ShownStore → RunInput → Result RunInput Outcome → Type 0
 GridComes true store input come = (come ≡ Err (outcome.Refused refusal.Grid)) × MeetsNoFault store
 GridComes false store input come = come ≡ Ok input
 
--- the same, and then a grid over the run's drive, with a fault of each class at each `step`th tick
+-- F4, of `sweep`
 abbrev pub SweptComes :
     (campaign name : List ℕ) → (step : ℕ) → Change ShownStore → Result RunInput Outcome → Type 0
 SweptComes campaign name step store come = (input : Result RunInput Outcome)
@@ -65,27 +65,26 @@ SweptComes campaign name step store come = (input : Result RunInput Outcome)
 
 -- ---- the run of a sweep ----
 
--- a run that may be played, over whose drive the grid isn't too large
+-- a run that may be played, and whose grid isn't too large
 pub record IsSweepable (step : ℕ) (input : RunInput) : Type 0 where
   pub playable : IsPlayable input
   pub grid : is_too_large (length input.drive) step ≡ false
 
--- this drive row, but without a reset of the unit
 abbrev pub without_reset : DriveRow → DriveRow
 without_reset row = record row { reset = false }
 
--- the same input without the resets of its trace
+-- C91
 abbrev pub without_resets : RunInput → RunInput
 without_resets input = record input { drive = map without_reset input.drive }
 
 -- ---- a run whose drive and engine come from elsewhere ----
 
--- there is no run of that name, or its image is read, and no trace
+-- F4: there is no such run, or its image is read, and no trace
 abbrev pub FoundUndriven : Option (ℕ × RunPlan) → Change ShownStore → Result RunInput Outcome → Type 0
 FoundUndriven None store come = (come ≡ Err (outcome.Refused refusal.NoRun)) × MeetsNoFault store
 FoundUndriven (Some found) store come = ImageComes store found.0 found.1 [] come
 
--- the campaign is read, and then the image of its run of that name
+-- F4, of `couple`
 abbrev pub UndrivenComes : (campaign name : List ℕ) → Change ShownStore → Result RunInput Outcome → Type 0
 UndrivenComes campaign name store come = (plans : Result (List RunPlan) Outcome)
     × FileComes role.Campaign campaign_file campaign store plans
@@ -113,36 +112,34 @@ AcceptsGrid step store (Some found) = (drive : List DriveRow)
 
 -- ---- the name of a file of a run ----
 
--- the name that a run of the campaign gives to the file of this role, if the role is of a run
+-- the name that the campaign gives to a trace or image of its runs
 abbrev pub name_in : List RunPlan → Role → Option (List ℕ)
 name_in plans (role.Trace n) = option_map (λ plan. plan.trace) (slice_get plans (n - 1))
 name_in plans (role.Image n) = option_map (λ plan. plan.image) (slice_get plans (n - 1))
 name_in plans _ = None
 
--- the name that the plan of a run gives to the file of this role
 abbrev pub name_by : RunPlan → Option Role → Option (List ℕ)
 name_by plan (Some (role.Trace n)) = Some plan.trace
 name_by plan (Some (role.Image n)) = Some plan.image
 name_by plan _ = None
 
--- the name that a run of the campaign gives to the file of this role, if there is a role and it is of a run
 abbrev pub name_for : List RunPlan → Option Role → Option (List ℕ)
 name_for plans (Some file) = name_in plans file
 name_for plans None = None
 
--- where the role is of a run, it is of run n
+-- if the role is a run's, it is that of run n
 abbrev pub IsOf : ℕ → Option Role → Type 0
 IsOf n (Some (role.Trace run)) = run ≡ n
 IsOf n (Some (role.Image run)) = run ≡ n
 IsOf n _ = Unit {0}
 
--- the role isn't of a run
+-- the role isn't a run's
 abbrev pub IsNotOfRun : Option Role → Type 0
 IsNotOfRun (Some (role.Trace n)) = ⊥
 IsNotOfRun (Some (role.Image n)) = ⊥
 IsNotOfRun _ = Unit {0}
 
--- there is a name exactly if there is a role and it is of a run
+-- there is a name exactly if the role is a run's
 abbrev pub IsNamedIfOfRun : Option Role → Option (List ℕ) → Type 0
 IsNamedIfOfRun (Some (role.Trace n)) name = IsSome name
 IsNamedIfOfRun (Some (role.Image n)) name = IsSome name
@@ -153,16 +150,14 @@ abbrev pub IsNameIn : List ℕ → ShownStore → Role → Option (List ℕ) →
 IsNameIn campaign store file name = (bytes : List ℕ) × AreRead store campaign bytes
     × (plans : List RunPlan) × (campaign_file bytes ≡ Ok plans) × IsSome name × (name ≡ name_in plans file)
 
--- Where an outcome speaks of the trace or the image of a run, the name is the one that the campaign gives;
--- otherwise there is none.
+-- F6: the name that the campaign gives, if an outcome speaks of the trace or image of a run; else none
 abbrev pub NamesFile : List ℕ → ShownStore → Option Role → Option (List ℕ) → Type 0
 NamesFile campaign store (Some (role.Trace n)) name = IsNameIn campaign store (role.Trace n) name
 NamesFile campaign store (Some (role.Image n)) name = IsNameIn campaign store (role.Image n) name
 NamesFile campaign store _ name = name ≡ None
 
--- What holds of whatever comes of a campaign and of files of its runs: an end that speaks of a file of a run
--- has its name; over a sure store a missing campaign is told; no refusal tells that memory ran out; and no
--- file changes.
+-- An end that speaks of a file of a run has its name. Over a sure store a missing campaign is told. No
+-- refusal says that memory ran out, and no file changes.
 pub record ReadsCampaign {X : Type 0} (campaign : List ℕ) (store : Change ShownStore) (come : Result X End) :
     Type 0 where
   pub named : IfErr come (λ end. NamesFile campaign store.before (role_in end.outcome) end.file)

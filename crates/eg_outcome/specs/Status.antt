@@ -1,9 +1,9 @@
--- Outside the headline. The exit status of each outcome.
+-- Outside the headline. The exit status of each outcome (F3).
 use Rattle.std.specs.Prelude.{ℕ}
 use Rattle.eg_outcome.specs.declared.outcome.Outcome.{Outcome}
 use Rattle.eg_outcome.specs.declared.outcome.Outcome.TheVariants as outcome
 
--- 0 where the work was done, else 2 to 6
+-- F3
 abbrev pub status_of : Outcome → ℕ
 status_of outcome.Done = 0
 status_of outcome.Usage = 2

@@ -10,7 +10,7 @@ use Rattle.eg_pages.specs.declared.page.TheConstants.{PAGES, PAGE_WORDS}
 abbrev pub IsPage : List ℕ → Type 0
 IsPage words = length words ≡ PAGE_WORDS
 
--- 64 pages, which together are the words of a memory
+-- C23: 64 pages, which together are the words of a memory
 pub record ArePages (pages : List (List ℕ)) : Type 0 where
   pub count : length pages ≡ PAGES
   pub each : All IsPage pages

@@ -1,5 +1,5 @@
--- Outside the headline. Which documents are accepted as campaigns: what their keys hold in the words of TOML,
--- and without the order in which they are checked.
+-- Outside the headline. Which documents are accepted as campaigns (F15, F16), in the words of TOML and
+-- without the order of the checks.
 use Rattle.std.specs.Prelude.{◌≡◌, ◌↔◌, ◌≤◌, true, ℕ, List, codes, map, Option, Some, Ok, Err}
 use Rattle.std.specs.Bool.{⊤}
 use Rattle.std.specs.List.{AllByRecursion, AllPairs}
@@ -21,16 +21,14 @@ use Rattle.eg_plan.specs.Runs.{run_names, run_of}
 use Rattle.eg_plan.specs.Campaign.{runs_of, run_items, is_top_known, campaign_of}
 use Rattle.eg_plan.specs.Rules.{IsRunName, IsFileName, IsSlicePlan, AreRuns}
 
--- the word for an engine
 abbrev pub engine_word : EngineKind → Data
 engine_word Gasoline = string (codes "gasoline")
 engine_word Diesel = string (codes "diesel")
 
--- 1 to 64 strictly rising numbers from 0 to 19999
+-- F16, `after`
 abbrev pub AreTicks : List ℕ → Type 0
 AreTicks ns = AreMany 1 64 (λ n. n ≤ 19999) ns × IsStrictlyIncreasing ns
 
--- what stands there is what a key of this content may hold
 abbrev pub Holds : Content → Option Data → Type 0
 Holds run_name o = HoldsValue string IsRunName o
 Holds file_name o = HoldsValue string IsFileName o
@@ -43,11 +41,10 @@ Holds words o = HoldsValue (array_of natural) (AreMany 1 64 (λ n. n ≤ 65535))
 Holds ticks o = HoldsValue (array_of natural) AreTicks o
 Holds truths o = HoldsValue (array_of boolean) (AreMany 1 64 (λ truth. ⊤)) o
 
--- what stands under a key in a table is what its rule says
 abbrev pub IsHeld : Members → KeyRule → Type 0
 IsHeld ms rule = Holds rule.content (get_member (text_of rule.key) ms)
 
--- the table of a fault names a class, has an onset and what the keys of the class hold, and no other name
+-- F16
 pub record IsFaultTable (ms : Members) : Type 0 where
   pub class : ClassName
   pub is_named : class_in ms ≡ Some class
@@ -55,31 +52,31 @@ pub record IsFaultTable (ms : Members) : Type 0 where
   pub keys : AllByRecursion (IsHeld ms) (own_rules class)
   pub names : all_names (is_among (names_with (own_keys class))) ms ≡ true
 
--- the table of a run has what its keys hold, a fault or none, and no other name
+-- F15
 pub record IsRunTable (ms : Members) : Type 0 where
   pub keys : AllByRecursion (IsHeld ms) run_keys
   pub faults : MayHoldValue (array_of table) (AreMany 0 1 IsFaultTable) (get_member (codes "faults") ms)
   pub names : all_names (is_among run_names) ms ≡ true
 
--- 1 to 1,000 tables of runs, no two of one name
+-- F15, F17: no two runs have one name
 pub record AreRunTables (tables : List Members) : Type 0 where
   pub many : AreMany 1 1000 IsRunTable tables
   pub apart : AllPairs (λ earlier later. ¬ (earlier.name ≡ later.name)) (map run_of tables)
 
--- under `run` stands an array of such tables, and no other name stands at the top
+-- F15
 pub record KeepsRules (ms : Members) : Type 0 where
   pub runs : HoldsValue (array_of table) AreRunTables (get_member (codes "run") ms)
   pub names : is_top_known ms ≡ true
 
--- the law: a document is accepted exactly if it keeps the rules, and its runs are those that its tables say
+-- Claim 39: a document is accepted exactly if it keeps the rules, and its runs are those that its tables say.
 abbrev pub AcceptedLaw : Type 0
 AcceptedLaw = (ms : Members) (runs : List RunPlan) →
     (campaign_of (Some ms) ≡ Ok runs) ↔ (KeepsRules ms × (runs ≡ runs_of (run_items ms)))
 
--- the law: the runs of what is accepted keep the plain rules
+-- the runs of an accepted document keep the plain rules of Rules.antt
 abbrev pub RunsLaw : Type 0
 RunsLaw = (document : Option Members) (runs : List RunPlan) → campaign_of document ≡ Ok runs → AreRuns runs
 
--- the law: ticks are no reason to refuse a campaign file, since it doesn't say how many a run has
+-- F18: ticks are no reason to refuse a campaign file, which doesn't say how many a run has
 abbrev pub NoTicksLaw : Type 0
 NoTicksLaw = (document : Option Members) (n : ℕ) → ¬ (campaign_of document ≡ Err (Ticks n))

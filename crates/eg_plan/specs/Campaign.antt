@@ -1,5 +1,4 @@
--- A campaign file says its runs, 1 to 1,000 of them, or its first refusal: of their array, of other names, of
--- their count, and then of each run in turn.
+-- The runs of a campaign file (F15), or its first refusal (F17).
 use Rattle.std.specs.Prelude.{ℕ, ◌+◌, ◌&&◌, Bool, nat_le, List, [], ◌∷◌, ◌++◌, codes, Option, Some, None, unwrap_or, Result, Err}
 use Rattle.toml.specs.Data.{Data, Members, no_members, Items, no_items, item, get_member, as_table, as_array}
 use Rattle.eg_toml.specs.Values.{◌>>=◌}
@@ -14,16 +13,15 @@ use Rattle.eg_plan.specs.Runs.{all_items, is_table, run_of, run_refusal}
 
 -- ---- the array of runs ----
 
--- the members of an item that is a table (none of another, which is refused)
+-- the members of a table; none of another item, which is refused
 abbrev pub members_in : Data → Members
 members_in d = unwrap_or (as_table d) no_members
 
--- what the tables of the runs say
 abbrev pub runs_of : Items → List RunPlan
 runs_of no_items = []
 runs_of (item d ds) = run_of (members_in d) ∷ runs_of ds
 
--- the first refusal of the runs from number n on, where these are the runs before them
+-- F17, point 6, of the runs from number n on; `earlier` are the runs before
 abbrev pub runs_refusal : ℕ → List RunPlan → Items → Option CampaignFault
 runs_refusal n earlier no_items = None
 runs_refusal n earlier (item d ds) =
@@ -32,23 +30,21 @@ runs_refusal n earlier (item d ds) =
 
 -- ---- the file ----
 
--- the array under `run`
 abbrev pub run_array : Members → Option Items
 run_array ms = get_member (codes "run") ms >>= as_array
 
--- its items, and none where there is no array
 abbrev pub run_items : Members → Items
 run_items ms = unwrap_or (run_array ms) no_items
 
--- the items are tables, and there is at least one
+-- F17, Key `run`
 abbrev pub are_runs : Items → Bool
 are_runs ds = all_items is_table ds && nat_le 1 (count ds)
 
--- no other name stands at the top
+-- F17, Key unknown of run 0
 abbrev pub is_top_known : Members → Bool
 is_top_known ms = all_names (is_among (codes "run" ∷ [])) ms
 
--- the first refusal: of `run`, of other names, of the count of runs, and then of each run in turn
+-- F17, points 3 to 6
 unfoldable pub refusal_of : Members → Option CampaignFault
 refusal_of ms = first_of
     (unless_true (fault.Key 0 key.Run) (are_runs (run_items ms))
@@ -57,7 +53,7 @@ refusal_of ms = first_of
     ∷ runs_refusal 1 [] (run_items ms)
     ∷ [])
 
--- the runs of a document, or its first refusal
+-- F15, F17
 abbrev pub campaign_of : Option Members → Result (List RunPlan) CampaignFault
 campaign_of None = Err fault.Text
 campaign_of (Some ms) = unless (refusal_of ms) (runs_of (run_items ms))

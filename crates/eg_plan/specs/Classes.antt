@@ -1,4 +1,4 @@
--- Under the own keys of a class of faults stand the values that make it up, each within its range.
+-- What the own keys of a class of faults say (F16).
 use Rattle.std.specs.Prelude.{List, map, codes, Option}
 use Rattle.toml.specs.Data.{Members, get_member, as_str}
 use Rattle.eg_toml.specs.Values.{◌>>=◌}
@@ -12,11 +12,10 @@ use Rattle.eg_fault.specs.Names.{class_named, own_keys}
 use Rattle.eg_plan.specs.Keys.{KeyRule, rule_of}
 use Rattle.eg_plan.specs.Contents.{number_of, shift_of, numbers_of, truths_of}
 
--- the own keys of a class with what they may hold
+-- F16
 abbrev pub own_rules : ClassName → List KeyRule
 own_rules name = map (rule_of name) (own_keys name)
 
--- what these keys say
 abbrev pub class_of : ClassName → Members → Class
 class_of Script ms =
     class.Script (number_of (rule_of Script Track) ms) (numbers_of (rule_of Script Values) ms)
@@ -35,6 +34,5 @@ class_of Path2Closed ms = class.Path2Closed
 class_of PathOpen ms = class.PathOpen (number_of (rule_of PathOpen Path) ms)
 class_of Lapse ms = class.Lapse (numbers_of (rule_of Lapse After) ms) (number_of (rule_of Lapse Every) ms)
 
--- the class that a table of `faults` names
 abbrev pub class_in : Members → Option ClassName
 class_in ms = get_member (codes "class") ms >>= as_str >>= class_named

@@ -1,5 +1,4 @@
--- The fault of a run has the onset and class that its table says, or a first refusal: of class, of onset, and
--- then of the class's own keys.
+-- The fault of a run (F16), or its first refusal (F17).
 use Rattle.std.specs.Prelude.{ℕ, List, [], ◌∷◌, Bool, map, codes, Option, unwrap_or, Result}
 use Rattle.toml.specs.Data.{Members}
 use Rattle.eg_toml.specs.Names.{all_names, is_among}
@@ -18,15 +17,15 @@ use Rattle.eg_plan.specs.Contents.{number_of}
 use Rattle.eg_plan.specs.Checks.{key_refusal, keys_refusal}
 use Rattle.eg_plan.specs.Classes.{class_in, own_rules, class_of}
 
--- the class that the table of a fault names (Halt where it names none, which is refused)
+-- the class that the table of a fault names; Halt, if the table names none, which is refused
 abbrev pub class_at : Members → ClassName
 class_at ms = unwrap_or (class_in ms) Halt
 
--- what is answered for the keys of a class in run n
+-- F17, of the keys of a class in run n
 abbrev pub TellsClass : ℕ → ClassName → Members → Result Class CampaignFault → Type 0
 TellsClass n name ms result = Checks (keys_refusal n (own_rules name) ms) (class_of name ms) result
 
--- the first refusal of a fault of run n: of its class, of its onset, and then of the class's own keys
+-- F17, point 6.4
 unfoldable pub fault_refusal : ℕ → Members → Option CampaignFault
 fault_refusal n ms = first_of
     (unless_some (Key n key.Class) (class_in ms)
@@ -34,14 +33,13 @@ fault_refusal n ms = first_of
     ∷ keys_refusal n (own_rules (class_at ms)) ms
     ∷ [])
 
--- what the table of a fault says
 unfoldable pub fault_of : Members → Fault
 fault_of ms = record { onset = number_of onset ms; class = class_of (class_at ms) ms }
 
--- the names that a table of this class may have
+-- F16
 abbrev pub names_with : List FaultKey → List (List ℕ)
 names_with keys = codes "class" ∷ codes "onset" ∷ map key_text keys
 
--- the table of a fault has no other name
+-- F17, point 6.5, of the fault
 abbrev pub has_own_names : Members → Bool
 has_own_names ms = all_names (is_among (names_with (own_keys (class_at ms)))) ms

@@ -1,5 +1,4 @@
--- Each key of a campaign file may hold what its rule says: a name, rows of slices, an engine, or numbers or
--- truth values of a fault, each within its range.
+-- The keys of a campaign file, and what they may hold (F15, F16).
 use Rattle.std.specs.Prelude.{ℕ, ◌-◌, List, [], ◌∷◌, codes}
 use Rattle.eg_sensor.specs.declared.tracks.TheConstants.{PEDAL_1, BRAKE_2}
 use Rattle.eg_answer.specs.declared.modules.TheConstants.{CHECK, PEDAL, PAIRS, REACT}
@@ -13,7 +12,7 @@ use Rattle.eg_fault.specs.Names.{key_text}
 use Rattle.eg_plan.specs.declared.key.RunKey.{RunKey}
 use Rattle.eg_plan.specs.declared.key.RunKey.TheVariants.{Run, Name, Trace, Image, Slices, Engine, Faults, Class, Onset, Own, Unknown}
 
--- a key as it stands in the file, and as a note prints it
+-- as a key stands in the file, and as a note prints it (F17)
 abbrev pub text_of : RunKey → List ℕ
 text_of Run = codes "run"
 text_of Name = codes "name"
@@ -27,7 +26,7 @@ text_of Onset = codes "onset"
 text_of (Own key) = key_text key
 text_of Unknown = codes "unknown"
 
--- What a key may hold. A number is a TOML integer, and a truth value a TOML boolean.
+-- F15, F16. A number is a TOML integer, and a truth value a TOML boolean.
 pub data Content : Type 0 where
   run_name : Content  -- 1 to 32 of the characters a to z, 0 to 9 and -, not beginning with -
   file_name : Content  -- 1 to 200 bytes, not beginning with -
@@ -40,7 +39,6 @@ pub data Content : Type 0 where
   ticks : Content  -- 1 to 64 strictly rising numbers from 0 to 19999
   truths : Content  -- 1 to 64 truth values
 
--- a key and what it may hold
 pub record KeyRule : Type 0 where
   pub key : RunKey
   pub content : Content
@@ -67,7 +65,7 @@ slices = Slices holds slice_rows
 abbrev pub engine : KeyRule
 engine = Engine holds engine_name
 
--- those that are checked first, in this order; `faults` comes after them
+-- F17, point 6.1
 abbrev pub run_keys : List KeyRule
 run_keys = name ∷ trace ∷ image ∷ slices ∷ engine ∷ []
 
@@ -76,12 +74,12 @@ run_keys = name ∷ trace ∷ image ∷ slices ∷ engine ∷ []
 abbrev pub onset : KeyRule
 onset = Onset holds number 0 19999
 
--- the modules that a class may name: one that is disturbed gives a signal
+-- F16: only a module that gives a signal can be disturbed
 abbrev modules_of : ClassName → Content
 modules_of Disturb = number PEDAL PAIRS
 modules_of _ = number CHECK REACT
 
--- what an own key of a class may hold
+-- F16
 abbrev content_of : ClassName → FaultKey → Content
 content_of class own.Track = number PEDAL_1 BRAKE_2
 content_of class own.Values = words
@@ -97,6 +95,5 @@ content_of class own.Path = number PATH_1 PATH_2
 content_of class own.After = ticks
 content_of class own.Every = optional 20000
 
--- an own key of a class, and what it may hold
 abbrev pub rule_of : ClassName → FaultKey → KeyRule
 rule_of class key = Own key holds content_of class key

@@ -5,8 +5,7 @@ use Rattle.eg_num.specs.Drive.{IsDrive}
 use Rattle.eg_fault.specs.Faults.{IsNoneOrValid}
 use Rattle.eg_plan.specs.declared.run_input.RunInput.{RunInput}
 
--- a run may be played: its drive has 1 to 20,000 rows within their limits, its image at most 1,024 words, and
--- its fault, if any, is a valid one
+-- a run may be played: its drive (F9, F11), image (F24) and fault (F16) keep their limits
 pub record IsPlayable (input : RunInput) : Type 0 where
   pub some : 1 ≤ length input.drive
   pub most : length input.drive ≤ 20000

@@ -1,5 +1,4 @@
--- A run of a campaign file has the name, trace, image, slices, engine and at most one fault that its table
--- says, or else a first refusal.
+-- A run of a campaign file (F15), or its first refusal (F17).
 use Rattle.std.specs.Prelude.{ℕ, ◌&&◌, Bool, true, false, nat_le, List, [], ◌∷◌, ◌++◌, map, codes, bytes_eq, is_some, not, Option, Some, None, option_map}
 use Rattle.std.specs.List.{list_any}
 use Rattle.toml.specs.Data.{Data, Members, Items, no_items, item, get_member, get_item, as_table, as_array}
@@ -18,7 +17,6 @@ use Rattle.eg_plan.specs.Faults.{fault_refusal, fault_of, has_own_names}
 
 -- ---- the array of faults ----
 
--- each item passes
 abbrev pub all_items : (Data → Bool) → Items → Bool
 all_items passes no_items = true
 all_items passes (item d ds) = passes d && all_items passes ds
@@ -26,17 +24,15 @@ all_items passes (item d ds) = passes d && all_items passes ds
 abbrev pub is_table : Data → Bool
 is_table d = is_some (as_table d)
 
--- an array of tables
 abbrev pub are_tables : Option Items → Bool
 are_tables None = false
 are_tables (Some ds) = all_items is_table ds
 
--- an array of at most one item, or none
 abbrev pub is_one_at_most : Option Items → Bool
 is_one_at_most None = true
 is_one_at_most (Some ds) = nat_le (count ds) 1
 
--- what is refused of the value under `faults`: it is no array of tables, or has more than one
+-- F17, points 6.2 and 6.3
 abbrev pub array_refusal : ℕ → Option Data → Option CampaignFault
 array_refusal n None = None
 array_refusal n (Some d) = first_of
@@ -44,37 +40,33 @@ array_refusal n (Some d) = first_of
     ∷ unless_true (fault.TwoFaults n) (is_one_at_most (as_array d))
     ∷ [])
 
--- the same of the table of run n
 abbrev pub faults_refusal : ℕ → Members → Option CampaignFault
 faults_refusal n ms = array_refusal n (get_member (codes "faults") ms)
 
--- the table of the fault, if there is one
 abbrev pub fault_table : Members → Option Members
 fault_table ms = get_member (codes "faults") ms >>= as_array >>= get_item 0 >>= as_table
 
--- the first refusal of the keys of that table, if there is one
 abbrev pub table_refusal : ℕ → Option Members → Option CampaignFault
 table_refusal n None = None
 table_refusal n (Some t) = fault_refusal n t
 
 -- ---- the names in the tables of a run ----
 
--- the names that the table of a run may have
+-- F15
 abbrev pub run_names : List (List ℕ)
 run_names = map (λ rule. text_of rule.key) run_keys ++ codes "faults" ∷ []
 
--- the table of the fault, if there is one, has no other name than it may
 abbrev pub table_is_known : Option Members → Bool
 table_is_known None = true
 table_is_known (Some t) = has_own_names t
 
--- no other name stands in the table of the run or of its fault
+-- F17, point 6.5
 abbrev pub is_all_known : Members → Bool
 is_all_known ms = all_names (is_among run_names) ms && table_is_known (fault_table ms)
 
 -- ---- a run ----
 
--- what the table of a run says
+-- F15
 abbrev pub run_of : Members → RunPlan
 run_of ms = record {
   name = bytes_of name ms;
@@ -85,12 +77,10 @@ run_of ms = record {
   fault = option_map fault_of (fault_table ms);
 }
 
--- some run has this name
 abbrev pub has_name : List ℕ → List RunPlan → Bool
 has_name text runs = list_any (λ run. bytes_eq run.name text) runs
 
--- the first refusal of run n, where these are the runs before it: of its first keys, of its array of faults,
--- of its fault's keys, of other names, and of its own name where an earlier run has it
+-- F17, point 6; `earlier` are the runs before run n
 unfoldable pub run_refusal : ℕ → List RunPlan → Members → Option CampaignFault
 run_refusal n earlier ms = first_of
     (keys_refusal n run_keys ms

@@ -1,23 +1,22 @@
 -- An engine elsewhere makes its steps outside the program. What it shows after a step is told before that
--- step is made here, and is shown then; while the power stages are off there is no torque, whatever was told.
+-- step is made here, and is shown then.
 use Rattle.std.specs.Prelude.{◌≡◌, ℕ, Bool, Option, if◌then◌else◌}
 use Rattle.eg_plant.specs.Engine.{Shown, KeepsLaws}
 
--- such an engine: the torque of a load of 1000, what it shows, and what it is to show after its next step
+-- an engine elsewhere: `kt`, what it shows, and what it is to show after its next step
 pub record Foreign : Type 0 where
   pub kt : ℕ
   pub shown : Shown
   pub next : Shown
 
--- an engine without load and torque, whose position is 0
 unfoldable pub nothing : Shown
 nothing = record { position = 0; load_1 = 0; load_2 = 0; torque = 0 }
 
--- before anything was told: it shows nothing, and is to show nothing
+-- before anything was told
 unfoldable pub at_rest : (kt : ℕ) → Foreign
 at_rest kt = record { kt = kt; shown = nothing; next = nothing }
 
--- what is shown of what was told: no torque while the power stages are off
+-- C19: no torque while the stages are off, whatever was told
 unfoldable pub powered : (on : Bool) → Shown → Shown
 powered on told = if on then told else record told { torque = 0 }
 

@@ -12,7 +12,7 @@ pub record IsKept (p : PlantParts) (g : Gasoline) : Type 0 where
   pub charge : g.charge ≤ 1000
   pub torque : g.torque ≤ estimate p.kt g.charge
 
--- besides, the charge of its plate, which it keeps from one step to the next, is that of the curve
+-- the engine also keeps the charge of its plate from one step to the next, and this is that of the curve
 pub record KeepsFilling (p : PlantParts) (g : Gasoline) (filling : ℕ) : Type 0 where
   pub state : IsKept p g
   pub filled : filling ≡ curve_at p.charge g.plate

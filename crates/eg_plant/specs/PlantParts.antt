@@ -1,17 +1,15 @@
--- A plant has the most that plate and charge move in a tick, a charge for each angle of the plate, and the
--- torque of a load of 1000. It is gasoline or diesel (the diesel plant reads these data in its own way).
+-- The data of a plant (C18), with either engine.
 use Rattle.std.specs.Prelude.{ℕ, ◌≤◌, All}
 use Rattle.eg_num.specs.Interpolation.{Curve}
 
--- the most that the plate and the charge move in a tick, the charge of each plate angle, and the torque of a
--- load of 1000
+-- C18
 pub record PlantParts : Type 0 where
   pub slew : ℕ
   pub fill : ℕ
   pub charge : Curve
   pub kt : ℕ
 
--- their limits
+-- C18
 pub record ArePlantParts (p : PlantParts) : Type 0 where
   pub slew_least : 1 ≤ p.slew
   pub slew_most : p.slew ≤ 1000

@@ -1,4 +1,5 @@
--- What is written of runs once their inputs are known: on Done the whole text on runs that keep the headline.
+-- How the commands on runs end once their inputs are known (F3): what is written, which ticks are made, and
+-- that each run keeps the headline.
 use Rattle.std.specs.Prelude.{◌≡◌, ℕ, List, map, All}
 use Rattle.eg_base.specs.Outside.{ShownSink}
 use Rattle.eg_answer.specs.Times.{reaction_of}
@@ -26,14 +27,14 @@ use Rattle.eg_play.specs.Sweeping.{runs_over, table_over, swept_text}
 
 -- ---- runs are played ----
 
--- the ticks of these rows were made and counted, with the weights of the rows; where memory ran out, the
--- first of them were
+-- the ticks of these rows were made and counted, with the weights of the rows; if memory ran out, those of
+-- the first rows were
 abbrev pub AreTicked : List Row → Change TickCount → Outcome → Type 0
 AreTicked rows ticks outcome.Memory = RanOutAmong rows ticks.before ticks.after
 AreTicked rows ticks o = ticks.after ≡ count_with ticks.before rows
 
--- These runs were played and these rows made for them, and this text on the runs was written: on Done all of
--- it. The record of each run keeps the headline.
+-- These runs were played and these rows made for them, and this text was written (on Done all of it). The
+-- record of each run keeps the headline.
 pub record Plays (text : List ℕ) (runs : List EngineRun) (rows : List Row) (out : Change ShownSink)
     (ticks : Change TickCount) (o : Outcome) : Type 0 where
   pub written : LineEnds text out o
@@ -42,16 +43,13 @@ pub record Plays (text : List ℕ) (runs : List EngineRun) (rows : List Row) (ou
 
 -- ---- `run [--cal NAME] CAMPAIGN`, and `table` and `margins` likewise ----
 
--- What `table` tells of a run keeps the limits of the calibration: with at most one listed fault its
--- reactions are in time, and its longest stretch of excess is no longer than it can be; and its peak isn't
--- greater.
+-- C65, C77, C80: what `table` tells of a run keeps the limits of the calibration
 abbrev pub TellsWithinLimits : CalibrationParts → RunInput → Type 0
 TellsWithinLimits cal input =
     KeepsLimits (run_with cal input).run.setting (told_with cal input).facts (told_with cal input).reactions
 
--- The runs of a campaign were played, and told in this way: on Done the whole text was written. Whichever way
--- they are told, what `table` tells of them keeps the limits of the calibration, and what `table` and
--- `margins` tell is what their rows show.
+-- The runs of a campaign were played, and told in this way. Whichever way that is, what `table` tells of the
+-- runs keeps the limits of the calibration, and what `table` and `margins` tell is what the rows show.
 pub record Tells (telling : Telling) (cal : CalibrationParts) (inputs : List RunInput)
     (out : Change ShownSink) (ticks : Change TickCount) (o : Outcome) : Type 0 where
   pub plays : Plays (runs_text telling cal inputs) (map (run_with cal) inputs) (rows_made cal inputs)
@@ -61,8 +59,8 @@ pub record Tells (telling : Telling) (cal : CalibrationParts) (inputs : List Run
 
 -- ---- `record [--cal NAME] CAMPAIGN RUN` ----
 
--- The ticks of a record are made and counted as its lines are written: on Done all of them; else those up to
--- the line at which it was stopped.
+-- C55: on Done all ticks of the record were made and counted, else those up to the line at which it was
+-- stopped
 abbrev pub AreTickedInTurn :
     CalibrationParts → RunInput → Change ShownSink → Change TickCount → Outcome → Type 0
 AreTickedInTurn cal input out ticks outcome.Done =
@@ -70,8 +68,7 @@ AreTickedInTurn cal input out ticks outcome.Done =
 AreTickedInTurn cal input out ticks o =
     IsStopped (rows_in_time (run_with cal input)) out.before out.after ticks.before ticks.after
 
--- A run was played, and its record was written as its ticks were made: on Done all of it. The record keeps
--- the headline.
+-- A run was played, and its record was written as its ticks were made (C55). The record keeps the headline.
 pub record Records (cal : CalibrationParts) (input : RunInput) (out : Change ShownSink)
     (ticks : Change TickCount) (o : Outcome) : Type 0 where
   pub written : LineEnds (record_text cal input) out o
@@ -80,9 +77,8 @@ pub record Records (cal : CalibrationParts) (input : RunInput) (out : Change Sho
 
 -- ---- `sweep [--cal NAME] CAMPAIGN RUN STEP` ----
 
--- The runs of a sweep were played, as one group, and their table was written: on Done all of it. The record
--- of each keeps the headline; and under each class but lapses, and so in the last line, the greatest
--- reaction is at most the worst-case reaction.
+-- C91: the runs of a sweep were played as one group (C58), and their table was written. Each record keeps the
+-- headline. The greatest reactions, but that of `lapse`, are at most R.
 pub record Sweeps (cal : CalibrationParts) (step : ℕ) (input : RunInput) (out : Change ShownSink)
     (ticks : Change TickCount) (o : Outcome) : Type 0 where
   pub plays : Plays (swept_text cal step input) (map (run_with cal) (runs_over step input))

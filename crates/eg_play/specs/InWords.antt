@@ -1,6 +1,4 @@
--- What `table` and `margins` tell of a run is what its rows show, in words: the first watch that is found,
--- and that cuts, the first tick off, the peak, the stretch and the reaction; the greatest weight of a watch
--- is its limit exactly if the watch is found; and the surplus is the greatest that there is up to a trip.
+-- What `table` (F30) and `margins` (F31) tell of a run is what its rows show, in words.
 use Rattle.std.specs.Prelude.{◌≡◌, ◌↔◌, ℕ, ◌≤◌, ℤ, ◌≤ℤ◌, IsTrue, true, false, List, [], ◌∷◌, map, Option, IfSome}
 use Rattle.std.specs.List.{Contains}
 use Rattle.eg_num.specs.Windows.{WeightParts}
@@ -23,7 +21,7 @@ use Rattle.eg_plan.specs.declared.run_input.RunInput.{RunInput}
 
 -- ---- `table` ----
 
--- these facts and reactions are what the rows show, by the weights of the torque and this threshold
+-- F30, by the weights of the torque and this threshold
 pub record AreShown (weights : WeightParts) (threshold : ℕ) (rows : List Row) (facts : Facts)
     (reactions : Reactions) : Type 0 where
   pub first : IsFirstDetection rows facts.first
@@ -35,27 +33,25 @@ pub record AreShown (weights : WeightParts) (threshold : ℕ) (rows : List Row) 
 
 -- ---- `margins` ----
 
--- this watch is found at one of these rows
 abbrev pub IsFoundIn : Watch → List Row → Type 0
 IsFoundIn watch rows = (row : Row) × Contains rows row × IsTrue (is_found row.found watch)
 
--- the greatest weight of a watch is at most its limit, and is its limit exactly if the watch is found
+-- C82
 pub record IsWeightOf (watch : Watch) (limit : ℕ) (rows : List Row) (weight : ℕ) : Type 0 where
   pub within : weight ≤ limit
   pub found : (weight ≡ limit) ↔ IsFoundIn watch rows
 
--- At the last of these rows of a drive span level 2's actual torque lies at most n above the permitted one,
--- n being below 0 where it has to lie below; or a row before trips. So by no threshold from n on is there an
--- excess up to the first trip.
+-- C83: at the last of these rows of a drive span, level 2's actual torque less the permitted torque is at
+-- most n, or a row before trips. So no threshold from n on has an excess up to the first trip.
 abbrev pub LiesAtMost : (n : ℤ) → (start : ℕ) → List Row → Type 0
 LiesAtMost n start [] = Unit {0}
 LiesAtMost n start (row ∷ before) = is_tripped before ≡ false → surplus_at row ≤ℤ n
 
--- it is the least number of which this is so in each drive span, and there is none without a drive span
+-- C83: the least number of which this is so in each drive span; none without a drive span
 abbrev pub IsSurplus : List Row → Option ℤ → Type 0
 IsSurplus rows surplus = (n : ℤ) → EachDriveSpan (LiesAtMost n) rows ↔ IfSome surplus (λ most. most ≤ℤ n)
 
--- these margins are what the rows show, by the limits of this calibration
+-- F31, by the limits of this calibration
 pub record AreMargins (cal : CalibrationParts) (rows : List Row) (margins : Margins) : Type 0 where
   pub pedal : IsWeightOf watch.Pedal cal.rules.pair.limit rows margins.greatest.pedal
   pub plate : IsWeightOf watch.Plate cal.rules.pair.limit rows margins.greatest.plate
@@ -67,7 +63,6 @@ pub record AreMargins (cal : CalibrationParts) (rows : List Row) (margins : Marg
 
 -- ---- of a run ----
 
--- what `table` tells of a run, and what `margins` tells of it, is what its rows show
 pub record TellsInWords (cal : CalibrationParts) (input : RunInput) : Type 0 where
   pub table : AreShown cal.rules.torque cal.rules.threshold (rows_of_run (run_with cal input))
       (told_with cal input).facts (told_with cal input).reactions

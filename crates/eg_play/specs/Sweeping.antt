@@ -1,5 +1,4 @@
--- A sweep plays one run of a campaign, without its resets, under a fault of each class at each onset of a
--- grid, and writes the table of these runs.
+-- The runs of a sweep (C91), and the text of their table (F38).
 use Rattle.std.specs.Prelude.{ℕ, List, map, length}
 use Rattle.eg_fault.specs.declared.class.Fault.{Fault}
 use Rattle.eg_values.specs.Calibration.{CalibrationParts}
@@ -11,18 +10,16 @@ use Rattle.eg_table.specs.Grid.{swept_faults}
 use Rattle.eg_table.specs.Sweep.{table_of}
 use Rattle.eg_table.specs.SweepTexts.{sweep_text_of}
 
--- the faults of a sweep over an input, at each `step`th tick of its drive, and its runs under them, without
--- its resets
+-- C91, without the resets of the trace
 unfoldable pub faults_over : (step : ℕ) → RunInput → List Fault
 faults_over step input = swept_faults (length input.drive) step
 
 unfoldable pub runs_over : (step : ℕ) → RunInput → List RunInput
 runs_over step input = inputs_under (without_resets input) (faults_over step input)
 
--- the table of these runs: a row for each class
 unfoldable pub table_over : CalibrationParts → (step : ℕ) → RunInput → List SweepRow
 table_over cal step input = table_of (faults_over step input) (map (facts_by cal) (runs_over step input))
 
--- the text of this table
+-- F38
 unfoldable pub swept_text : CalibrationParts → (step : ℕ) → RunInput → List ℕ
 swept_text cal step input = sweep_text_of (table_over cal step input)

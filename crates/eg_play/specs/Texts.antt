@@ -1,5 +1,5 @@
--- `run` writes a line for each run of a campaign in its order, and a last line; `table` and `margins` write a
--- header, and a row for each run. What `record` writes is `record_text` of `eg_campaign`.
+-- The texts of `run` (F29), `table` (F30) and `margins` (F31). What `record` writes is `record_text` of
+-- `eg_campaign`.
 use Rattle.std.specs.Prelude.{ℕ, Bool, true, false, List, ◌++◌, map}
 use Rattle.std.specs.List.{concat, zip}
 use Rattle.eg_answer.specs.Times.{reaction_of}
@@ -16,23 +16,23 @@ use Rattle.eg_outcome.specs.declared.telling.Telling.TheVariants.{Report, Rows}
 use Rattle.eg_outcome.specs.declared.telling.Columns.{Columns}
 use Rattle.eg_outcome.specs.declared.telling.Columns.TheVariants.{Table, Margins}
 
--- the report: a line for each run in the campaign's order, and a last line
+-- F29
 unfoldable pub report_text : CalibrationParts → List RunInput → List ℕ
 report_text cal inputs =
     concat (map (λ input. summary_line (report_with cal input)) inputs)
     ++ report_end (map (report_with cal) inputs)
 
--- the line above the rows with these columns
+-- F30, F31, the header
 unfoldable pub header_of : Columns → List ℕ
 header_of Table = table_header
 header_of Margins = margins_header
 
--- the row of a run, of which this is told; the bound is the worst-case reaction, in ticks
+-- F30, F31: the row of a run, of which this is told; `bound` is R
 unfoldable pub line_of : Columns → (bound : ℕ) → RunInput × RunFacts → List ℕ
 line_of Table bound run = table_line run.0.plan.name run.0.plan.fault bound run.1
 line_of Margins bound run = margins_line run.0.plan.name run.0.plan.fault run.1.margins
 
--- the header, and the rows of these runs in their order, `told` being what is told of each
+-- F30, F31; `told` is what is told of each run
 unfoldable pub rows_by : Columns → (bound : ℕ) → List RunInput → List RunFacts → List ℕ
 rows_by columns bound inputs told =
     header_of columns ++ concat (map (line_of columns bound) (zip inputs told))
@@ -42,12 +42,11 @@ unfoldable pub weighs : Columns → Bool
 weighs Table = false
 weighs Margins = true
 
--- the header and the rows of a campaign
+-- F30, F31
 unfoldable pub rows_text : Columns → CalibrationParts → List RunInput → List ℕ
 rows_text columns cal inputs =
     rows_by columns (reaction_of cal.times) inputs (map (told_by (weighs columns) cal) inputs)
 
--- what is written of the runs of a campaign
 abbrev pub runs_text : Telling → CalibrationParts → List RunInput → List ℕ
 runs_text Report cal inputs = report_text cal inputs
 runs_text (Rows columns) cal inputs = rows_text columns cal inputs

@@ -1,12 +1,9 @@
--- Pedal, plate, load and speed are each sensed by a pair of tracks, which disagrees where its two values
--- differ by more than its tolerance. The second track of pedal and plate falls: a sound one reads 1000 less
--- the value. A raise of the permitted torque comes with a check word, and counts where the two add up to
--- 65535.
+-- What tracks read (C12), and what level 2 makes of it (C13 to C15).
 use Rattle.std.specs.Prelude.{ℕ, ◌+◌, ◌-◌, ◌/◌, ◌%◌, ◌==◌, Bool, List, [], ◌∷◌, min, if◌then◌else◌, nat_lt, slice_index}
 use Rattle.eg_sensor.specs.declared.pairs.TheConstants.{PEDAL_PAIR, PLATE_PAIR, LOAD_PAIR, SPEED_PAIR}
 use Rattle.eg_sensor.specs.declared.readings.Readings.{Readings}
 
--- what a falling track's reading stands for, not below 0
+-- C12
 abbrev pub falling_value : ℕ → ℕ
 falling_value reading = 1000 - reading
 
@@ -23,19 +20,19 @@ rising_pair tracks = record { first = slice_index tracks 0; second = slice_index
 abbrev pub falling_pair : List ℕ → PairValues
 falling_pair tracks = record { first = slice_index tracks 0; second = falling_value (slice_index tracks 1) }
 
--- two values differ by more than a tolerance
+-- C13
 abbrev pub disagrees : PairValues → ℕ → Bool
 disagrees pair tolerance = nat_lt tolerance ((pair.first - pair.second) + (pair.second - pair.first))
 
--- the pedal that level 2 uses: the lower of the two values, and 0 in limited operation
+-- C14
 abbrev pub used_pedal : List ℕ → Bool → ℕ
 used_pedal tracks limp = if limp then 0 else min (falling_pair tracks).first (falling_pair tracks).second
 
--- the raise that counts: it and its check word are to add up to 65535, and otherwise it is 0
+-- C15
 abbrev pub checked_raise : ℕ → ℕ → ℕ
 checked_raise value check = if value + check == 65535 then value else 0
 
--- the bit of this size where a test is true, else 0
+-- the bit of this size if a test is true, else 0
 abbrev pub bit : ℕ → Bool → ℕ
 bit size is_set = if is_set then size else 0
 
@@ -43,8 +40,7 @@ bit size is_set = if is_set then size else 0
 unfoldable pub has_bit : ℕ → ℕ → Bool
 has_bit size word = word / size % 2 == 1
 
--- the bits of the pairs that disagree, added up; the tolerances stand in the order pedal, plate, load and
--- speed
+-- C13, with the bits of module 5 (C24). The tolerances stand in the order pedal, plate, load and speed.
 abbrev pub pair_bits : Readings → List ℕ → ℕ
 pair_bits r tolerances =
     bit PEDAL_PAIR (disagrees (falling_pair r.pedal) (slice_index tolerances 0))
@@ -52,7 +48,7 @@ pair_bits r tolerances =
     + bit LOAD_PAIR (disagrees (rising_pair r.load) (slice_index tolerances 2))
     + bit SPEED_PAIR (disagrees (rising_pair r.speed) (slice_index tolerances 3))
 
--- what sound tracks read, where the engine shows these two loads
+-- C12, C15, if the engine shows these two loads
 abbrev pub sound_readings : ℕ → ℕ → List ℕ → ℕ → ℕ → Readings
 sound_readings pedal plate loads speed raise = record {
   pedal = pedal ∷ (1000 - pedal) ∷ [];

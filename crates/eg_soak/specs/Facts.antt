@@ -1,5 +1,4 @@
--- `soak` counts of a run its first watch, whether level 1 traps, whether the stages go off, and its reaction,
--- or 0 where it has none.
+-- What `soak` counts of a run (C93, F39).
 use Rattle.std.specs.Prelude.{Bool, is_some, option_map, unwrap_or}
 use Rattle.eg_record.specs.declared.facts.Facts.{Facts}
 use Rattle.eg_record.specs.declared.watch.Watch.{Watch}
@@ -11,8 +10,7 @@ use Rattle.eg_model.specs.Engines.{bench_of}
 use Rattle.eg_model.specs.EngineRuns.{EngineRun}
 use Rattle.eg_soak.specs.declared.facts.DrawnFacts.{DrawnFacts}
 
--- what counts of a run with these facts, in which level 1 traps or doesn't; a run that has no reaction counts
--- as one with reaction 0
+-- F39; a run without a reaction counts as a run with reaction 0
 unfoldable pub facts_in : Facts → (is_trapped : Bool) → DrawnFacts
 facts_in facts is_trapped = record {
   first = option_map (λ detection. detection.0) facts.first;
@@ -21,11 +19,10 @@ facts_in facts is_trapped = record {
   reaction = unwrap_or (reaction_in facts) 0;
 }
 
--- what counts of a run
+-- C93
 unfoldable pub drawn_facts : EngineRun → DrawnFacts
 drawn_facts r =
     let b = bench_of r.engine in facts_in (record_facts b r.run) (is_some (record_trap b r.run))
 
--- this watch is the first that was detected
 unfoldable pub is_first : Watch → DrawnFacts → Bool
 is_first watch facts = is_watch watch facts.first

@@ -1,14 +1,12 @@
--- `soak` writes a line for each number of its summary: runs, none, one for each of seven watches, trapped,
--- off and longest.
+-- The text of `soak` (F39).
 use Rattle.std.specs.Prelude.{ℕ, List, [], ◌∷◌, ◌++◌, map, codes, decimal, slice_index}
 use Rattle.std.specs.List.{concat}
 use Rattle.eg_soak.specs.declared.summary.SoakSummary.{SoakSummary}
 
--- the line of a number
 unfoldable pub soak_line : List ℕ × ℕ → List ℕ
 soak_line named = named.0 ++ codes " " ++ decimal named.1 ++ codes "\n"
 
--- the numbers in their order, each with its name
+-- F39
 unfoldable pub numbers : SoakSummary → List (List ℕ × ℕ)
 numbers s =
     (codes "runs", s.runs) ∷ (codes "none", s.none)
@@ -18,9 +16,9 @@ numbers s =
     ∷ (codes "answers", slice_index s.by_watch 6) ∷ (codes "trapped", s.trapped) ∷ (codes "off", s.off)
     ∷ (codes "longest", s.longest) ∷ []
 
--- a line for each of some numbers
 unfoldable pub lines_of : List (List ℕ × ℕ) → List (List ℕ)
 lines_of named = map soak_line named
 
+-- F39
 unfoldable pub soak_text : SoakSummary → List ℕ
 soak_text s = concat (lines_of (numbers s))

@@ -1,6 +1,4 @@
--- A coupled run: a partner answers each tick of the unit with the drive row of the tick and what its engine
--- shows. So what comes in at the ticks follows from the answers, and what is true of the ticks from what came
--- in, as in any run. An answer keeps the laws of engines, or is refused. Answers stand newest first.
+-- A coupled run (C88 to C90): a partner answers each tick of the unit. Answers stand newest first.
 use Rattle.std.specs.Prelude.{◌≡◌, ℕ, ◌%◌, ◌==◌, Bool, not, ◌&&◌, nat_le, List, [], ◌∷◌, length, slice_index_or, Option, Some, None, Result, Ok, Err, if◌then◌else◌}
 use Rattle.eg_num.specs.Arithmetic.{estimate}
 use Rattle.eg_plant.specs.Engine.{Shown}
@@ -16,12 +14,12 @@ use Rattle.eg_tick.specs.Commanding.{commanded_at}
 
 -- ---- what the unit is ----
 
--- The unit of a run: its setting and its slice plan. The run's drive and engine have no part in it.
+-- The unit of a run. The run's drive and engine have no part in it (C88).
 pub record CoupledUnit : Type 0 where
   pub setting : Setting
   pub plan : List (List ℕ)
 
--- that of the run with this input, by this calibration
+-- C88
 abbrev pub unit_of : CalibrationParts → RunInput → CoupledUnit
 unit_of cal input = record {
   setting = record { cal = cal; image = input.image; fault = input.plan.fault };
@@ -30,7 +28,7 @@ unit_of cal input = record {
 
 -- ---- what comes in, and what is true ----
 
--- what comes in at tick t by an answer: the rows of the slice plan come in turn
+-- C88: what comes in at tick t by an answer. The rows of the slice plan are used in turn (C55).
 unfoldable pub entry_by : CoupledUnit → ℕ → PartnerAnswer → Entry
 entry_by unit t answer = record {
   drive = answer.drive;
@@ -38,34 +36,31 @@ entry_by unit t answer = record {
   shown = answer.told;
 }
 
--- what comes in at the ticks of these answers
 unfoldable pub entries_by : CoupledUnit → List PartnerAnswer → List Entry
 entries_by unit [] = []
 entries_by unit (answer ∷ before) = entry_by unit (length before) answer ∷ entries_by unit before
 
--- what is true of these ticks
 unfoldable pub coupled_moments : CoupledUnit → List PartnerAnswer → List Moment
 coupled_moments unit answers = moments unit.setting (entries_by unit answers)
 
--- the rows of the record
+-- C90
 unfoldable pub coupled_rows : CoupledUnit → List PartnerAnswer → List Row
 coupled_rows unit answers = rows_of (coupled_moments unit answers)
 
 -- ---- the laws at the door ----
 
--- why a line isn't taken: it has no answer's form; the estimate of a load lies below the torque; or there is
--- torque, though the power stages are off
+-- F37: why a line isn't taken
 pub data Objection : Type 0 where
   NoAnswer : Objection
   LoadBelowTorque : Objection
   TorqueWhileOff : Objection
 
--- the estimate of each load is at least the torque
+-- C89, F37: Load
 unfoldable pub covers : (kt : ℕ) → Shown → Bool
 covers kt shown =
     nat_le shown.torque (estimate kt shown.load_1) && nat_le shown.torque (estimate kt shown.load_2)
 
--- an answer after these, if it is taken
+-- C89, F37: Load and Stages, of an answer after these
 unfoldable pub lawful : CoupledUnit → List PartnerAnswer → PartnerAnswer → Result PartnerAnswer Objection
 lawful unit before answer =
     if not (covers unit.setting.cal.rules.kt answer.told) then Err LoadBelowTorque
@@ -78,7 +73,7 @@ unfoldable pub lawful_if_any :
 lawful_if_any unit before None = Err NoAnswer
 lawful_if_any unit before (Some answer) = lawful unit before answer
 
--- what comes of a line after these answers: the answer that it gives, or why it isn't taken
+-- F37, of a line after these answers
 unfoldable pub taken : CoupledUnit → List PartnerAnswer → List ℕ → Result PartnerAnswer Objection
 taken unit before line = lawful_if_any unit before (answer_of line)
 

@@ -1,5 +1,4 @@
--- Answers come line by line, and the row of each is written before the next is read. The command ends behind
--- the last line, or by the first that isn't taken. Answers stand newest first.
+-- How `couple` ends (F3, F37). Answers stand newest first.
 use Rattle.std.specs.Prelude.{◌≡◌, ℕ, nat_le, List, [], ◌∷◌, length, reverse, Result, Ok, Err, if◌then◌else◌}
 use Rattle.eg_base.specs.Outside.{ShownSink}
 use Rattle.eg_lines.specs.Lines.{ShownLines}
@@ -18,11 +17,11 @@ use Rattle.eg_stream.specs.Texts.{coupled_text}
 use Rattle.eg_stream.specs.Headline.{KeepsCoupledHeadline}
 use Rattle.eg_stream.specs.Streams.{LineWork, StreamEnds}
 
--- the most answers of a run
+-- F37, Long
 abbrev pub most_answers : ℕ
 most_answers = 20000
 
--- what a call changes that couples: the lines that it reads, its output and its count of ticks
+-- a call of `couple`: the lines that it reads, its output and its count of ticks
 pub record Coupling : Type 0 where
   pub lines : Change ShownLines
   pub out : Change ShownSink
@@ -33,25 +32,24 @@ coupling lines out ticks = record { lines = lines; out = out; ticks = ticks }
 
 -- ---- a line ----
 
--- how a line of this number is refused, the first being 1
+-- F37; the line of tick 0 has number 1
 abbrev pub refusal_of : ℕ → Objection → Refusal
 refusal_of n NoAnswer = refusal.Check (trace_fault.Row n)
 refusal_of n LoadBelowTorque = refusal.Answer (answer_fault.LoadBelowTorque n)
 refusal_of n TorqueWhileOff = refusal.Answer (answer_fault.TorqueWhileOff n)
 
--- what a line of this number comes to after these answers, by what is taken of it
+-- the answers with that of a line, or the refusal of the line of this number
 abbrev pub answered : ℕ → List PartnerAnswer → Result PartnerAnswer Objection
     → Result (List PartnerAnswer) Refusal
 answered n before (Ok answer) = Ok (answer ∷ before)
 answered n before (Err why) = Err (refusal_of n why)
 
--- behind as many answers as may be, one more is refused, whatever it holds
+-- F37: behind 20,000 answers a line is refused, whatever it holds
 unfoldable pub couple_step : CoupledUnit → ℕ → List PartnerAnswer → Line → Result (List PartnerAnswer) Refusal
 couple_step unit n before line =
     if nat_le most_answers (length before) then Err (refusal.Check trace_fault.Long)
     else answered n before (taken unit before line)
 
--- what the command does
 abbrev pub couple_work : CoupledUnit → LineWork (List PartnerAnswer)
 couple_work unit = record {
   start = [];
@@ -62,8 +60,8 @@ couple_work unit = record {
 
 -- ---- how a coupling ends ----
 
--- Lines came, and each was taken and gave an answer; a tick was made and counted for each, and the rows of
--- these ticks keep the headline.
+-- F3, F37: lines came, and each was taken and gave an answer. A tick was made and counted for each, and the
+-- rows of these ticks keep the headline (C90).
 abbrev pub CouplingEnds : CoupledUnit → Coupling → Outcome → Type 0
 CouplingEnds unit call o =
     (answers : List PartnerAnswer) × StreamEnds (couple_work unit) answers call.lines call.out o

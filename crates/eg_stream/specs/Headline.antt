@@ -1,6 +1,5 @@
--- The headline of a coupled run: whatever the partner's engine does, its rows keep the laws that hold of
--- every engine. It is said of answers that were taken, and nothing else is asked of the partner. Four laws
--- hold only if the engine showed one load twice at each tick (`sharp`). Rows stand newest first.
+-- The headline of a coupled run (C90): its rows keep the laws that hold of every engine, and four more if the
+-- engine shows one load twice. Rows stand newest first.
 use Rattle.std.specs.Prelude.{◌≡◌, ◌+◌, ◌≤◌, ℕ, true, false, List, [], ◌∷◌, All, map, length, Some, None}
 use Rattle.eg_answer.specs.Times.{feeds_to_confirm, reaction_of, test_ticks_of}
 use Rattle.eg_values.specs.Excess.{BoundsLapses, BoundsMissed, ticks_to_confirm, longest_stretch, longest_missed}
@@ -35,82 +34,77 @@ use Rattle.eg_laws.specs.Availability.{AvailableIfSpaced, misses_tick}
 use Rattle.eg_laws.specs.MissedTicks.{KeepsMissing, never_again, CutForGood, MissesAreCut}
 use Rattle.eg_stream.specs.Coupled.{CoupledUnit, entry_by, entries_by, coupled_rows}
 
--- What holds besides if the engine showed one load twice at each tick.
+-- C90: what holds besides if the engine showed one load twice at each tick
 pub record SharpHeadline (s : Setting) (rows : List Row) : Type 0 where
-  -- without a fault the stages go off exactly one tick after the full-efficiency excess is first confirmed,
-  -- and before the onset of one the cut is as sharp
+  -- C68, the sharp cut
   pub cuts : s.fault ≡ None → EachDriveSpan (CutOneTickAfter s.cal.rules.torque
       s.cal.rules.kt s.cal.rules.threshold) rows
   pub cuts_before : EachDriveSpan (CutSharplyBefore s.fault s.cal.rules.torque s.cal.rules.kt
       s.cal.rules.threshold) rows
-  -- before the onset `torque` is found exactly then, and nothing else before
+  -- C68: what is found before the onset
   pub finds_sharply : EachDriveSpan (FindsSharply s.fault s.cal.rules.torque s.cal.rules.kt
       s.cal.rules.threshold) rows
-  -- misses of a lapse that lie far enough apart never cut
+  -- C73, availability
   pub stays_available : EachDriveSpan (AvailableIfSpaced s) rows
 
--- Of a drive span: path 2 doesn't conduct from R ticks on after a tick of it that level 2 misses.
+-- C102, of path 2: it doesn't conduct from R ticks after each missed tick of a drive span on
 abbrev pub OpensAfterMisses : Setting → (start : ℕ) → List Row → Type 0
 OpensAfterMisses s start rows =
     (tick : ℕ) → start ≤ tick → misses_tick s.fault tick ≡ true →
     All (λ row. tick + reaction_of s.cal.times ≤ row.tick → row.path2 ≡ false) rows
 
 pub record CoupledHeadline (s : Setting) (rows : List Row) (one_load : Type 0) : Type 0 where
-  -- spans begin in turn, and the stages are on exactly if both paths conduct in a drive span
+  -- C40, power cycles, and C44, when the stages are on
   pub cycles : SpansBeginInTurn (test_ticks_of s.cal.times) rows
-  -- with no fault or a listed one the stages are off from R ticks after a confirmed true excess to the end
-  -- of the drive span, and under most faults from the next tick
+  -- C62, the reaction theorem
   pub reacts : IsListed s.fault → EachDriveSpan (ReactWithin (reaction_of s.cal.times)
       s.cal.rules.torque s.cal.rules.threshold) rows
   pub at_once : IsListed s.fault → EachDriveSpan (RowsReactAtOnce s.fault
       s.cal.rules.torque s.cal.rules.threshold) rows
-  -- in each test span the stages are off, and before the onset of a fault no test fails
+  -- C41, C68, of each test span
   pub unpowered : EachTestSpan AreOff rows
   pub passes : All (NeverFails s.fault) rows
-  -- what spoils the answers cuts within R of its onset, whatever the torque, and is found by then
+  -- C63, C70, from the onset of a `skip`, `disturb` or `halt`
   pub from_onset : EachDriveSpan (CutFromOnset s.fault (reaction_of s.cal.times)) rows
   pub finds_from_onset : EachDriveSpan (FindsFromOnset s.fault (reaction_of s.cal.times)) rows
-  -- no cut without a watch
+  -- C69, no cut without a watch, and C70, of flips
   pub finds_before_off : EachDriveSpan (FindsBeforeOff s.fault) rows
   pub finds_failure : EachTestSpan FindsFailure rows
   pub tells_flips : TellsFlips s.fault rows
-  -- under lapses excess that stands is cut, where there is a bound
+  -- C71, the bound for lapses
   pub lapses : BoundsLapses s.cal → IsLapse s.fault →
       EachDriveSpan (CutStandingExcess s.cal) rows
   pub short : BoundsLapses s.cal → IsLapse s.fault →
       EachDriveSpan (ExcessIsShort s.cal) rows
-  -- no excess under lapses lasts longer than `missed` of `limits`, by every calibration that has this number
+  -- C103, the longest excess under lapses
   pub missed : BoundsMissed s.cal → IsLapse s.fault →
       EachDriveSpan (ExcessIsBelow s.cal.rules.threshold (longest_missed s.cal + 1)) rows
-  -- where level 2 keeps missing ticks R is kept, and from R ticks after each missed one the stages are off;
-  -- so they are from R ticks after the onset of a lapse by which it never runs again
+  -- C102, misses that go on
   pub misses : KeepsMissing s.fault s.cal.times.period → EachDriveSpan (MissesAreCut s) rows
   pub for_good : (onset : ℕ) → s.fault ≡ Some (never_again onset) →
       EachDriveSpan (CutForGood onset (reaction_of s.cal.times)) rows
-  -- where one wrong verdict confirms, path 2 is open from R ticks after each missed tick of a lapse
+  -- C102, if N is 1
   pub one_verdict : IsLapse s.fault → feeds_to_confirm s.cal.times.weights ≡ 1 →
       EachDriveSpan (OpensAfterMisses s) rows
-  -- how long an excess lasts, and how often it may come again
+  -- C65, how long an excess stands, and C66, how often an excess comes
   pub stretches : IsListed s.fault → EachDriveSpan (RowsEndStretches s.cal.rules.threshold
       (longest_stretch s.cal)) rows
   pub stretches_at_once : IsListed s.fault → EachDriveSpan (RowsEndStretchesAtOnce s.fault
       s.cal.rules.torque s.cal.rules.threshold (ticks_to_confirm s.cal)) rows
   pub bursts : EachDriveSpan (RowsAreSparse s.cal.rules.torque s.cal.rules.threshold) rows
-  -- and what holds besides if the engine showed one load twice
+  -- C90, if the engine showed one load twice
   pub sharp : one_load → SharpHeadline s rows
 
--- the engine showed one load twice at each of these answers
 abbrev pub HasOneLoad : List PartnerAnswer → Type 0
 HasOneLoad answers = All (λ answer. IsOneLoad answer.told) answers
 
--- Under any image and any slice plan the same answers have the same rows, but for level 1's two outputs. So
--- level 1 acts by these alone, through the partner.
+-- C90, under any image and any slice plan
 abbrev pub ActsByOutputs : CoupledUnit → List PartnerAnswer → Type 0
 ActsByOutputs unit answers =
     (other : CoupledUnit) → other.setting ≡ running other.setting.image unit.setting →
     map without_outputs (coupled_rows other answers) ≡ map without_outputs (coupled_rows unit answers)
 
--- Each answer adds one row: that of its tick, which is the model's next.
+-- each answer adds one row, that of its tick, which is the model's next (C53)
 abbrev pub RowsComeInTurn : Type 0
 RowsComeInTurn =
     (unit : CoupledUnit) (before : List PartnerAnswer) (answer : PartnerAnswer) →
@@ -119,17 +113,17 @@ RowsComeInTurn =
     (next unit.setting (entry_by unit (length before) answer) (entries_by unit before))
     ∷ coupled_rows unit before
 
--- these rows have what was answered for them, one for one
+-- each of these rows has what was answered for it
 abbrev pub ShowAnswers : List Row → List PartnerAnswer → Type 0
 ShowAnswers [] [] = Unit {0}
 ShowAnswers (row ∷ rows) (answer ∷ before) =
     (row.drive ≡ answer.drive) × HasShown row answer.told × ShowAnswers rows before
 ShowAnswers _ _ = ⊥
 
--- These rows show the run of these answers, as those of the bench show theirs (`ShowsRun` of `eg_laws`): the
--- tick of each row is the count of the rows before it; it has what was answered, and the permitted torque by
--- the drive rows of its span; where the stages are off there is no torque; and the paths do what the fault
--- makes them.
+-- These rows show the run of these answers, as `ShowsRun` of `eg_laws` says of the bench: the tick of a row
+-- is the count of the rows before it; a row has what was answered, and the permitted torque by the drive rows
+-- of its span (C95); if the stages are off, there is no torque; and a path is shown as the fault makes it
+-- (C44).
 pub record ShowsAnswers (s : Setting) (answers : List PartnerAnswer) (rows : List Row) : Type 0 where
   pub numbered : AreRows rows
   pub answered : ShowAnswers rows answers
@@ -140,8 +134,7 @@ pub record ShowsAnswers (s : Setting) (answers : List PartnerAnswer) (rows : Lis
   pub open1 : All (λ row. (effects s.fault row.tick).conducts PATH_1 false ≡ false → row.path1 ≡ false) rows
   pub open2 : All (λ row. (effects s.fault row.tick).conducts PATH_2 false ≡ false → row.path2 ≡ false) rows
 
--- What a coupled run keeps with these answers: what came in was proper at each tick, and its rows show what
--- was answered and keep the headline.
+-- C90, of these answers. What came in was proper at each tick.
 pub record KeepsCoupledHeadline (unit : CoupledUnit) (answers : List PartnerAnswer) : Type 0 where
   pub proper : IsProperRun unit.setting (entries_by unit answers)
   pub shows : ShowsAnswers unit.setting answers (coupled_rows unit answers)

@@ -1,4 +1,4 @@
--- Outside the headline. How one line of a recording is read, and what comes of it.
+-- Outside the headline. How one line of a recording is read, and what comes of it (F13, F14).
 use Rattle.std.specs.Prelude.{◌≡◌, ◌⊎◌, ℕ, ◌+◌, ◌≤◌, Bool, true, false, List, [], ◌∷◌, length, reverse, Option, Some, None, Result, Ok, Err}
 use Rattle.eg_base.specs.Outside.{ShownSink}
 use Rattle.eg_lines.specs.Lines.{ShownLines}
@@ -21,12 +21,12 @@ use Rattle.eg_stream.specs.Recordings.{Measured, replay_work, RecordingEnds}
 
 -- ---- the first line ----
 
--- the first line is no header, or there is none
+-- F14, Header
 abbrev pub NoHeaderComes : Change ShownLines → Type 0
 NoHeaderComes lines = (Come lines [] × IsAtEnd lines)
     ⊎ ((first : Line) × Come lines (first ∷ []) × (columns_of first ≡ None))
 
--- the first line came, and names the columns; or it is no header, or there is none; or none came
+-- the first line came, and names the columns; or there is no header (F14); or no line came
 abbrev pub RecordingBegins : Change ShownLines → Result Recording Outcome → Type 0
 RecordingBegins lines (Ok recording) =
     (first : Line) × Come lines (first ∷ []) × (columns_of first ≡ Some recording.columns) × ReadsWell lines
@@ -34,8 +34,8 @@ RecordingBegins lines (Err end) =
     ((end ≡ outcome.Refused (refusal.Check fault.Header)) × NoHeaderComes lines × ReadsWell lines)
     ⊎ NoLineComes lines end
 
--- The columns that a first line names, if one came, or how the call ends without them: by what came in the
--- place of a line, or else by the fault Header, without a line too.
+-- The columns that the first line names, or how the call ends. Without a first line the fault is Header too
+-- (F14).
 abbrev pub columns_or_header : Option Columns → Result Columns Outcome
 columns_or_header (Some columns) = Ok columns
 columns_or_header None = Err (outcome.Refused (refusal.Check fault.Header))
@@ -47,8 +47,8 @@ columns_or_end (Err end) first = Err end
 
 -- ---- a line below it ----
 
--- the line of the tick of this number came, and writes this; or none was left; or it writes nothing, which is
--- told with its number, the header's being 1; or none came
+-- the line of this tick came, and writes this; or no line was left; or the line is refused (F14: the line of
+-- tick 0 is record 2); or no line came
 abbrev pub RecordingGoesOn :
     Columns → (tick : ℕ) → Change ShownLines → Result (Option Recorded) Outcome → Type 0
 RecordingGoesOn columns tick lines (Ok (Some r)) =
@@ -61,8 +61,8 @@ RecordingGoesOn columns tick lines (Err end) =
 
 -- ---- all lines ----
 
--- All lines came, a header and one tick at least, and these are the findings on what they write. Or the call
--- ends without them, and nothing is put to any output.
+-- All lines came, a header and at least one tick, and these are the findings. Or the call ends as `replay`
+-- does, with any output unchanged.
 abbrev pub FindingsCome : CalibrationParts → Change ShownLines → Result Findings Outcome → Type 0
 FindingsCome cal lines (Ok findings) =
     (taken : List Line) × (m : Measured) × Come lines taken × IsAtEnd lines

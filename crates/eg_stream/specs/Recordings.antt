@@ -1,6 +1,5 @@
--- Outside the headline. Lines of a recording come one by one: the first names the columns, and each below it
--- writes what was recorded at a tick. `replay` and `signals` refuse the first that doesn't, and a recording
--- of no tick. What was recorded stands newest first.
+-- Outside the headline. Lines of a recording come one by one (F13), and the first that isn't accepted is
+-- refused (F14). What was recorded stands newest first.
 use Rattle.std.specs.Prelude.{ℕ, List, [], ◌∷◌, Option, Some, None, Result, Ok, Err}
 use Rattle.eg_lines.specs.Lines.{ShownLines}
 use Rattle.eg_base.specs.Outside.{ShownSink}
@@ -21,12 +20,12 @@ use Rattle.eg_stream.specs.Streams.{LineWork, StreamEnds, HoldsWhole}
 
 -- ---- the lines ----
 
--- what the lines of a recording come to: its columns, which the first names, and what the others write
+-- what the lines of a recording say so far
 pub record Measured : Type 0 where
   pub columns : Columns
   pub recorded : List Recorded
 
--- by the columns that the first line names, and by what another one writes
+-- F14, Header and Row
 abbrev pub headed : Option Columns → Result (Option Measured) Refusal
 headed None = Err (refusal.Check fault.Header)
 headed (Some columns) = Ok (Some (record { columns = columns; recorded = [] }))
@@ -35,12 +34,12 @@ abbrev pub measured_on : (number : ℕ) → Measured → Option Recorded → Res
 measured_on number m None = Err (refusal.Check (fault.Row number))
 measured_on number m (Some r) = Ok (Some (record { columns = m.columns; recorded = r ∷ m.recorded }))
 
--- what a line comes to
+-- F14: the first line is the header
 abbrev pub recording_step : (number : ℕ) → Option Measured → Line → Result (Option Measured) Refusal
 recording_step number None line = headed (columns_of line)
 recording_step number (Some m) line = measured_on number m (recorded_of m.columns line)
 
--- what is written in all, of a header and one tick at least
+-- F14, Empty and Header, once no line is left
 abbrev pub of_ticks : (text : List Recorded → List ℕ) → List Recorded → Result (List ℕ) Refusal
 of_ticks text [] = Err (refusal.Check fault.Empty)
 of_ticks text (r ∷ before) = Ok (text (r ∷ before))
@@ -57,7 +56,7 @@ recording_work so_far text =
 
 -- ---- the commands ----
 
--- what `signals` writes of what was recorded, and so far
+-- F33, in all and so far
 abbrev pub signals_in : CalibrationParts → List Recorded → List ℕ
 signals_in cal recorded = signals_text (told_of cal (replayed cal recorded))
 
@@ -65,24 +64,23 @@ abbrev pub signals_so_far : CalibrationParts → Option Measured → List ℕ
 signals_so_far cal None = []
 signals_so_far cal (Some m) = signals_in cal m.recorded
 
--- what `replay` writes of it
+-- F32
 abbrev pub replay_in : CalibrationParts → List Recorded → List ℕ
 replay_in cal recorded =
     replay_text cal.rules.pair cal.rules.torque (findings_of (told_of cal (replayed cal recorded)))
 
--- `signals` writes at each line, `replay` behind the last
+-- `signals` writes at each line (F33), `replay` behind the last (F32)
 abbrev pub signals_work : CalibrationParts → LineWork (Option Measured)
 signals_work cal = recording_work (signals_so_far cal) (signals_in cal)
 
 abbrev pub replay_work : CalibrationParts → LineWork (Option Measured)
 replay_work cal = recording_work (λ state. []) (replay_in cal)
 
--- how such a command ends
 abbrev pub RecordingEnds :
     LineWork (Option Measured) → Change ShownLines → Change ShownSink → Outcome → Type 0
 RecordingEnds work lines out o = (state : Option Measured) × StreamEnds work state lines out o
 
--- the lines of a source are a recording of one tick at least, whatever is written of it, and reading them
+-- the lines of a source are a recording of at least one tick, whatever is written of it, and reading them
 -- never fails
 abbrev pub HoldsRecording : ShownLines → Type 0
 HoldsRecording lines = HoldsWhole (recording_work (λ state. []) (λ recorded. [])) lines

@@ -1,4 +1,5 @@
--- Outside the headline. A controller between two answers of a partner, and what comes of one of its lines.
+-- Outside the headline. A controller between two answers of a partner, and what comes of one line of the
+-- partner.
 use Rattle.std.specs.Prelude.{◌≡◌, ◌⊎◌, ℕ, ◌+◌, List, [], ◌∷◌, length, IsTrue, Option, Some, None, Result, Ok, Err}
 use Rattle.eg_plant.specs.Foreign.{Foreign}
 use Rattle.eg_lines.specs.Lines.{ShownLines}
@@ -12,19 +13,19 @@ use Rattle.eg_tick.specs.Stands.{Stands}
 use Rattle.eg_stream.specs.Coupled.{CoupledUnit, Objection, entries_by, taken}
 use Rattle.eg_stream.specs.Couplings.{refusal_of}
 
--- after these answers the controller stands for what came in by them, over a memory that is sure
+-- C54: after these answers the controller stands for what came in by them, over a sure memory
 pub record IsCoupled
     (unit : CoupledUnit) (answers : List PartnerAnswer) (c : ControllerParts Foreign) : Type 0 where
   pub stands : Stands unit.setting c.kept (entries_by unit answers)
   pub ticks : c.kept.ticks ≡ length answers
   pub sure : IsTrue c.kept.memory.sure
 
--- what comes of a line of this number, by what is taken of it
+-- F37, of a line of this number
 abbrev pub outcome_of : ℕ → Result PartnerAnswer Objection → Result PartnerAnswer Outcome
 outcome_of n (Ok answer) = Ok answer
 outcome_of n (Err why) = Err (outcome.Refused (refusal_of n why))
 
--- A line came after these answers, and it was taken or refused; or none was left; or none came.
+-- A line came after these answers, and was taken or refused (F37); or no line was left; or none came.
 abbrev pub AnswerComes :
     CoupledUnit → List PartnerAnswer → Change ShownLines → Result (Option PartnerAnswer) Outcome → Type 0
 AnswerComes unit before lines (Ok (Some answer)) =

@@ -1,5 +1,5 @@
--- Lines come one by one. A command takes each by what those before it came to, and writes what is to be
--- written so far before it reads the next. It ends behind the last line, or by the first that it refuses.
+-- Commands that read line by line. A command takes each line by what the lines before it came to, and writes
+-- what is due so far before it reads the next. It ends behind the last line, or by the first that it refuses.
 use Rattle.std.specs.Prelude.{◌≡◌, ◌⊎◌, ℕ, ◌+◌, List, [], ◌∷◌, ◌++◌, length, reverse, IsTrue, Some, Result, Ok, Err}
 use Rattle.eg_base.specs.Outside.{ShownSink, Rose, Appends, AppendsPrefix}
 use Rattle.eg_lines.specs.Lines.{ShownLines, lines_in}
@@ -12,9 +12,10 @@ use Rattle.eg_outcome.specs.declared.outcome.Role.TheVariants as role
 
 -- ---- what a command makes of lines ----
 
--- What a command over lines does. A state says what the lines so far came to: the first is that of no lines.
--- A line, by its number, the first being 1, leads from a state to the next, or is refused. Of each state it
--- is said what is written so far; and where no line is left, what is written in all, or how that is refused.
+-- What a command over lines does. A state says what the lines so far came to; `start` is the state of no
+-- lines. By a line and its number, from 1 on, `step` leads from a state to the next, or refuses the line.
+-- `so_far` is what is written so far in a state. `whole` is what is written in all if no line is left, or how
+-- this end is refused.
 pub record LineWork (S : Type 0) : Type 0 where
   pub start : S
   pub step : (number : ℕ) → S → Line → Result S Refusal
@@ -29,13 +30,13 @@ LeadTo {S} work (line ∷ before) state =
 
 -- ---- what is written ----
 
--- these bytes were written, and no fault of writing was met; where there are none, nothing was put
+-- these bytes were written, and no fault of writing was met; if there are none, nothing was put
 pub record HasWritten (text : List ℕ) (out : Change ShownSink) : Type 0 where
   pub all : Appends out.before out.after text
   pub no_fault : out.after.faults ≡ out.before.faults
   pub none : text ≡ [] → Stays out
 
--- A front was written of what is to be written so far; or, where no line is left, of all.
+-- A front was written of what is due so far; or, if no line is left, of what is due in all.
 abbrev pub WritesFront : {S : Type 0} → LineWork S → S → Change ShownLines → Change ShownSink → Type 0
 WritesFront work state lines out =
     (AppendsPrefix out.before out.after (work.so_far state) × (work.so_far state ≡ [] → Stays out))
@@ -44,15 +45,17 @@ WritesFront work state lines out =
 
 -- ---- how it ends ----
 
--- Behind the lines that were taken one more came, which is refused; or no line is left, and that is refused.
+-- Behind the lines that were taken one more came, which is refused; or no line is left, and this end is
+-- refused.
 abbrev pub RefusesNext : {S : Type 0} → LineWork S → List Line → S → Change ShownLines → Refusal → Type 0
 RefusesNext work taken state lines why =
     ((bad : Line) × Come lines (taken ++ bad ∷ [])
     × (work.step (length taken + 1) state bad ≡ Err why))
     ⊎ (Come lines taken × IsAtEnd lines × (work.whole state ≡ Err why))
 
--- Behind lines that were taken, and lead to this state, what each outcome says. A fault is told where a count
--- rose, and where none did none is told; and over a sure source no fault of reading is.
+-- Behind lines that were taken and lead to this state, what each outcome says (F3). If an outcome tells a
+-- fault, the count of such faults rose; every other count stayed. Over a sure source no fault of reading is
+-- told.
 abbrev pub EndsBehind : {S : Type 0} → LineWork S → List Line → S → Change ShownLines → Change ShownSink
     → Outcome → Type 0
 EndsBehind work taken state lines out outcome.Done =
@@ -73,7 +76,7 @@ EndsBehind work taken state lines out outcome.Memory =
     × (out.after.faults ≡ out.before.faults)
 EndsBehind work taken state lines out _ = ⊥
 
--- A call took lines one after another, which lead to this state, and ended behind them.
+-- F3: a call took lines one after another, which lead to this state, and ended behind them.
 pub record StreamEnds {S : Type 0} (work : LineWork S) (state : S) (lines : Change ShownLines)
     (out : Change ShownSink) (o : Outcome) : Type 0 where
   pub taken : List Line
@@ -82,12 +85,12 @@ pub record StreamEnds {S : Type 0} (work : LineWork S) (state : S) (lines : Chan
 
 -- ---- the laws ----
 
--- No line is read before what is to be written of those before it was written. Of what a source tells, lines
--- were read that are taken, and the line behind them, which is refused. Then the call refused that line, and
--- all that is to be written of those before it was written: not even a fault of writing comes in between.
--- Before it is read no line shows what it is, so this holds of each line. (Had the line been read sooner,
--- what stands before it could still fail to be written; but a call that ends with WriteFault has read taken
--- lines alone.)
+-- Claim 53: no line is read before what is due of the lines before it was written. Let a source tell taken
+-- lines and behind them a line that is refused, and let a call have read them. Then the call refused that
+-- line, and all that is due of the lines before it was written: not even a fault of writing comes in between.
+-- No line shows what it is before it is read, so this holds of each line. (If the line had been read sooner,
+-- writing what is due before it could still fail; but a call that ends with WriteFault has read taken lines
+-- alone.)
 abbrev pub ReadsNoLineAhead : {S : Type 0} → LineWork S → Type 0
 ReadsNoLineAhead {S} work =
     (state was : S) (lines : Change ShownLines) (out : Change ShownSink) (o : Outcome) →
@@ -97,8 +100,8 @@ ReadsNoLineAhead {S} work =
     LeadTo work (reverse good) was → work.step (length good + 1) was bad ≡ Err why →
     (o ≡ outcome.Refused why) × Appends out.before out.after (work.so_far was)
 
--- From bytes to bytes: where lines and output are told, and the command is done, all lines of the text were
--- taken, and behind what the stream held stands what is written of them in all, to the last byte.
+-- Claim 72: if lines and output are told and the command is done, all lines of the text were taken, and
+-- behind what the stream held stands what is written of them in all.
 abbrev pub BytesLeadToBytes : {S : Type 0} → LineWork S → Type 0
 BytesLeadToBytes {S} work =
     (state : S) (lines : Change ShownLines) (out : Change ShownSink) (text held : List ℕ) →
@@ -107,8 +110,8 @@ BytesLeadToBytes {S} work =
     LeadTo work (reverse (lines_in text)) state
     × ((whole : List ℕ) × (work.whole state ≡ Ok whole) × (out.after.written ≡ Some (held ++ whole)))
 
--- The lines of a source are told, all are taken, and something is written of them in all; and reading them
--- never fails.
+-- The source tells its lines, all are taken, something is written of them in all, and reading them never
+-- fails.
 pub record HoldsWhole {S : Type 0} (work : LineWork S) (lines : ShownLines) : Type 0 where
   pub all : List Line
   pub state : S

@@ -1,10 +1,9 @@
--- An array reads as what its items read as, one after another, where it has as many items as it may and each
--- of them can be read. Numbers rise where each is more than the one before it.
+-- How arrays of a document are read: item by item, if there are as many items as there may be, and each of
+-- them can be read.
 use Rattle.std.specs.Prelude.{◌≡◌, ℕ, suc, ◌&&◌, Bool, true, List, [], ◌∷◌, ◌++◌, Option, Some, None, option_map, if◌then◌else◌, nat_le, nat_lt, MatchBool}
 use Rattle.toml.specs.Data.{Data, Items, no_items, item, as_array}
 use Rattle.eg_toml.specs.Values.{number_in, ◌>>=◌}
 
--- how many items
 abbrev pub count : Items → ℕ
 count no_items = 0
 count (item d ds) = suc (count ds)
@@ -14,7 +13,7 @@ abbrev pub append_read : {X : Type 0} → Option (List X) → Option (List X) �
 append_read (Some xs) (Some ys) = Some (xs ++ ys)
 append_read _ _ = None
 
--- what all items read as, one after another, where each can be read
+-- what all items read as, one after another, if each can be read
 abbrev pub all_read : {X : Type 0} → (Data → Option (List X)) → Items → Option (List X)
 all_read read no_items = Some []
 all_read read (item d ds) = append_read (read d) (all_read read ds)
@@ -23,7 +22,6 @@ all_read read (item d ds) = append_read (read d) (all_read read ds)
 abbrev pub one : {X : Type 0} → (Data → Option X) → Data → Option (List X)
 one read d = option_map (λ x. x ∷ []) (read d)
 
--- the items of an array of `least` to `most` items
 abbrev pub items_in : ℕ → ℕ → Data → Option Items
 items_in least most d = do
   ds ← as_array d
@@ -45,11 +43,10 @@ numbers_in least most high d = array_in least most (one (number_in 0 high)) d
 abbrev pub rows_in : ℕ → ℕ → ℕ → Data → Option (List ℕ)
 rows_in tall wide high d = array_in tall tall (numbers_in wide wide high) d
 
--- where `ok`, what was read stands behind what was found before; else it couldn't be read
+-- If `ok`, what was read stands behind what was found before; else the items couldn't be read.
 abbrev pub HasRead : {X : Type 0} → Option (List X) → List X → List X → Bool → Type 0
 HasRead read before after ok = MatchBool ok (option_map (λ xs. before ++ xs) read ≡ Some after) (read ≡ None)
 
--- each number is more than the one before it
 abbrev pub is_rising : List ℕ → Bool
 is_rising [] = true
 is_rising (x ∷ []) = true

@@ -8,6 +8,6 @@ use Rattle.eg_toml.specs.Documents.{document_of}
 abbrev pub is_visible : ℕ → Bool
 is_visible c = c == byte "\t" || (nat_le 32 c && nat_le c 126)
 
--- if the rest is a document, then the bytes are the same one
+-- if the rest is a document, the bytes are the same document
 abbrev pub IsKeptBy : List ℕ → List ℕ → Type 0
 IsKeptBy bytes rest = (members : Members) → document_of rest ≡ Some members → document_of bytes ≡ Some members

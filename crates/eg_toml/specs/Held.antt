@@ -9,7 +9,7 @@ pub record HoldsValue {X : Type 0} (form : X → Data) (rule : X → Type 0) (o 
   pub is : o ≡ Some (form value)
   pub keeps : rule value
 
--- such a value is written there, or nothing
+-- a value of this form that keeps the rule is written there, or nothing is
 abbrev pub MayHoldValue : {X : Type 0} → (X → Data) → (X → Type 0) → Option Data → Type 0
 MayHoldValue form rule o = (o ≡ None) ⊎ HoldsValue form rule o
 
@@ -24,7 +24,7 @@ abbrev pub items_of : {X : Type 0} → (X → Data) → List X → Items
 items_of form [] = no_items
 items_of form (x ∷ xs) = item (form x) (items_of form xs)
 
--- an array of them
+-- an array of values of this form
 abbrev pub array_of : {X : Type 0} → (X → Data) → List X → Data
 array_of form xs = array (items_of form xs)
 

@@ -1,5 +1,4 @@
--- Outside the headline. A document weighs about as many bytes as `toml` takes for its tree, and is too heavy
--- to be read where that is more than `heaviest`. What stands in comments and in texts weighs nothing.
+-- Outside the headline. What a document weighs (F22): about as many bytes as `toml` takes for its tree.
 use Rattle.std.specs.Prelude.{ℕ, ◌+◌, ◌-◌, ◌*◌, Bool, true, false, not, ◌&&◌, ◌||◌, ◌==◌, nat_le, nat_lt, if◌then◌else◌, List, [], ◌∷◌, ◌++◌, length, take, slice_index_or, fold, bit_and}
 use Rattle.std.specs.Str.{byte}
 use Rattle.eg_toml.specs.declared.places.Place.{Place}
@@ -17,28 +16,26 @@ pub record Weighed : Type 0 where
   pub due : Due
   -- what stands in the list or the inline table that was opened last and is open still, or behind a heading
   pub counts : Counts
-  -- what stands in each that is open around it, from the outside in
+  -- what stands in each open list or inline table around that, from the outside in
   pub around : List Counts
   -- what these bytes weigh
   pub weight : ℕ
 
 -- ---- What weighs ----
 
--- a heading
 abbrev pub heading_weight : ℕ
 heading_weight = 1480
 
--- a table: a `{`, or a name with a `.` behind it
+-- a `{`, or a name with a `.` behind it
 abbrev pub table_weight : ℕ
 table_weight = 1296
 
--- a text that is a value
 abbrev pub text_weight : ℕ
 text_weight = 32
 
--- A name behind this many others of its table. A table has room for fifteen names at first. Each further name
--- may double the room, and is looked up behind the whole heading once more, so that it weighs much. Of good
--- files only a calibration without headings has further names, thirteen or fourteen.
+-- F22, an `=`. A table has room for fifteen names at first. Each further name may double the room, and is
+-- looked up behind the whole heading once more, so that it weighs much. Of good files only a calibration with
+-- dotted names at its top has further names, at most fifteen.
 abbrev pub name_weight : ℕ → ℕ
 name_weight names = if nat_lt names 15 then 32 else 27_000
 
@@ -47,21 +44,21 @@ name_weight names = if nat_lt names 15 then 32 else 27_000
 abbrev pub is_full : ℕ → Bool
 is_full values = nat_le 4 values && bit_and values (values - 1) == 0
 
--- a value behind this many others of its list: 40 for each new place of room, and 24 for the list itself
+-- F22, a value of a list: 40 for each new place of room, and 24 for the list itself
 abbrev pub value_weight : ℕ → ℕ
 value_weight values = if values == 0 then 184 else if is_full values then 40 * values else 0
 
--- the greatest weight with which a document is read
+-- F22
 abbrev pub heaviest : ℕ
 heaviest = 55_000_000
 
--- how many lists and inline tables `toml` reads in one another
+-- F19: how many lists and inline tables `toml` reads in one another
 abbrev pub deepest : ℕ
 deepest = 80
 
 -- ---- A byte outside of comments and texts ----
 
--- white space, a line end, or the begin of a comment
+-- F22: a blank, or the beginning of a comment
 abbrev pub is_between : ℕ → Bool
 is_between c = c == byte " " || c == byte "\t" || c == byte "\n" || c == byte "\r" || c == byte "#"
 
@@ -88,7 +85,7 @@ takes_value _ = true
 abbrev pub is_opening : Due → ℕ → Bool
 is_opening due c = c == byte "{" || (c == byte "[" && takes_value due)
 
--- what is due behind a `[`: where nothing was due, the `[` begins a heading, which may have a second one
+-- F22: if nothing was due, a `[` begins a heading, which may have a second `[`
 abbrev pub due_behind_bracket : Due → Due
 due_behind_bracket Nothing = Heading
 due_behind_bracket Heading = Nothing
@@ -103,7 +100,7 @@ due_behind due c =
     else if c == byte "[" then due_behind_bracket due
     else Nothing
 
--- what a byte weighs as a sign, behind this many names of its table
+-- F22, behind this many names of the table
 abbrev pub sign_weight : Due → ℕ → ℕ → ℕ
 sign_weight due names c =
     if begins_heading due c then heading_weight
@@ -117,7 +114,7 @@ abbrev pub names_behind : Due → ℕ → ℕ → ℕ
 names_behind due names c =
     if begins_heading due c then 0 else if c == byte "=" then names + 1 else names
 
--- a value of a list, or a name behind a comma, is weighed and counted where a byte begins one
+-- F22: a value of a list, or a name behind a comma, is weighed and counted if this byte begins one
 abbrev pub with_item : Weighed → ℕ → Weighed
 with_item w c =
     if begins_item w.due c
@@ -139,7 +136,7 @@ with_sign w c =
 abbrev pub no_counts : Counts
 no_counts = record { values = 0; names = 0 }
 
--- what stands around what is opened, kept as deep as `toml` reads
+-- F22: what stands around what is opened, kept as deep as `toml` reads
 abbrev pub kept_around : Weighed → List Counts
 kept_around w = if nat_lt (length w.around) deepest then w.around ++ w.counts ∷ [] else w.around
 
@@ -147,7 +144,7 @@ kept_around w = if nat_lt (length w.around) deepest then w.around ++ w.counts �
 abbrev pub opened : Weighed → Weighed
 opened w = record w { counts = no_counts; around = kept_around w }
 
--- a list or an inline table is closed, and the counts of the one around it go on, as deep as they are kept
+-- F22: a list or an inline table is closed, and the counts of what is around it go on
 abbrev pub closed : Weighed → Weighed
 closed w =
     let outer = length w.around - 1 in
@@ -177,8 +174,10 @@ weighed_on w c =
 abbrev pub unweighed : Weighed
 unweighed = record { place = Outside; due = Nothing; counts = no_counts; around = []; weight = 0 }
 
+-- F22
 abbrev pub weight_of : List ℕ → ℕ
 weight_of bytes = (fold weighed_on unweighed bytes).weight
 
+-- F22
 abbrev pub is_too_heavy : List ℕ → Bool
 is_too_heavy bytes = nat_lt heaviest (weight_of bytes)

@@ -1,5 +1,5 @@
 -- Outside the headline. A comment that a line feed ends weighs nothing, and neither does what stands in a
--- text of one line, where it isn't empty and has no backslash. (Of all other comments and texts the
+-- text of one line, if the text isn't empty and has no backslash (F22). (Of all other comments and texts the
 -- definition says so.)
 use Rattle.std.specs.Prelude.{◌≡◌, ℕ, Bool, true, not, ◌&&◌, ◌==◌, List, ◌∷◌, ◌++◌, fold}
 use Rattle.std.specs.List.{list_all}
@@ -23,7 +23,8 @@ CommentsWeighNothing =
 abbrev pub is_plain : ℕ → ℕ → Bool
 is_plain delimiter c = not (c == delimiter) && not (c == byte "\\")
 
--- a document weighs the same with another text of one line in the place of one, where neither is empty
+-- a document weighs the same with another text of one line in the place of a text of one line, if neither is
+-- empty
 abbrev pub TextsWeighNothing : Type 0
 TextsWeighNothing =
     (delimiter a b : ℕ) (front text other rest : List ℕ) → is_delimiter delimiter ≡ true

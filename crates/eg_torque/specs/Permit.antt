@@ -1,7 +1,5 @@
--- The permitted torque is the permit table's value at a pedal and a speed, of two speeds the lower value, or
--- the raise where that is more. The rows of the table are those of the pedal, in per mille, its columns those
--- of the speed, in rpm, and its values are in tenths of Nm. What is permitted doesn't fall where the pedal
--- rises, so a table is refused where one of its rows falls below the row before it.
+-- The permit table (C4), and what it permits (C5). Its rows are those of the pedal, in per mille, its columns
+-- those of the speed, in rpm, and its values are in tenths of Nm.
 use Rattle.std.specs.Prelude.{ℕ, ◌+◌, ◌-◌, ◌≤◌, ◌<◌, length, min, max}
 use Rattle.eg_num.specs.Drive.{DriveRow}
 use Rattle.eg_num.specs.Interpolation.{Grid, IsGrid, cell, grid_at}
@@ -14,25 +12,24 @@ pub record FallsAt (g : Grid) (i : ℕ) : Type 0 where
   pub within : column < length g.columns
   pub below : cell g i column < cell g (i - 1) column
 
--- row i is the first that does
+-- row i is the first such row
 pub record IsFirstFall (g : Grid) (i : ℕ) : Type 0 where
   pub falls : FallsAt g i
   pub first : (k : ℕ) → k < i → ¬ FallsAt g k
 
--- no value lies below that of the row before it
+-- C4
 abbrev pub DoesNotFall : Grid → Type 0
 DoesNotFall g = (i j : ℕ) → i + 1 < length g.rows → j < length g.columns → cell g i j ≤ cell g (i + 1) j
 
--- the permitted torque: the lower of the table's values at the two speeds that are read, or the raise where
--- that is more
+-- C5, of two speeds
 unfoldable pub permitted : Grid → ℕ → ℕ → ℕ → ℕ → ℕ
 permitted g pedal speed_a speed_b raise = max (min (grid_at g pedal speed_a) (grid_at g pedal speed_b)) raise
 
--- what a drive row permits: the table's value at its pedal and speed, or its raise where that is more
+-- C5, of a drive row
 unfoldable pub drive_permits : Grid → DriveRow → ℕ
 drive_permits g row = max (grid_at g row.pedal row.speed) row.raise
 
--- the law: a greater pedal or a greater raise never permits less, whatever the two speeds
+-- C4: a greater pedal or a greater raise never permits less, whatever the two speeds
 abbrev pub PermitRises : Type 0
 PermitRises = (g : Grid) → IsGrid g → DoesNotFall g → (p q a b r s : ℕ) → p ≤ q → r ≤ s →
     permitted g p a b r ≤ permitted g q a b s

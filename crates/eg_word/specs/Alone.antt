@@ -1,5 +1,5 @@
--- Outside the headline. A step that needs no memory: it loads no word and stores none, so that the program
--- and the registers alone say what it makes.
+-- Outside the headline. A step that loads and stores nothing, so that the program and the registers alone say
+-- what it makes.
 use Rattle.std.specs.Prelude.{ℕ, Bool, true, false, if◌then◌else◌, nat_lt, List, slice_index_or, Option, Some, None}
 use Rattle.eg_guard.specs.declared.regions.TheConstants.{DATA}
 use Rattle.eg_word.specs.declared.registers.Registers.{Registers}
@@ -7,7 +7,6 @@ use Rattle.eg_word.specs.declared.instruction.Instruction.{Instruction}
 use Rattle.eg_word.specs.declared.instruction.Instruction.TheVariants.{Nop, Ld, St}
 use Rattle.eg_word.specs.Machine.{effect}
 
--- whether an instruction loads or stores
 unfoldable pub needs_memory : Instruction → Bool
 needs_memory (Ld a b n) = true
 needs_memory (St a b n) = true
@@ -23,6 +22,6 @@ unfoldable pub after_alone : Registers → Option Instruction → Option Registe
 after_alone m None = None
 after_alone m (Some it) = if needs_memory it then None else Some (effect (λ address. None) m it).registers
 
--- the registers after the instruction at pc, or None where it needs the memory or lies outside the code
+-- none, if the instruction at pc needs the memory or lies outside the code
 abbrev pub alone : List Instruction → Registers → Option Registers
 alone program m = after_alone m (instruction_at program m.pc)

@@ -1,14 +1,13 @@
--- Each word of 16 bits is one instruction of level 1's machine, or an illegal one, by its fields: the
--- operation, the registers, and a number or a distance.
+-- How a word is read as an instruction (F43).
 use Rattle.std.specs.Prelude.{ℕ, ◌*◌, ◌/◌, ◌%◌, ℤ, pos, ◌-ℤ◌, if◌then◌else◌, ◌==◌, nat_lt}
 use Rattle.eg_word.specs.declared.instruction.Instruction.{Instruction}
 use Rattle.eg_word.specs.declared.instruction.Instruction.TheVariants.{Nop, Ldi, Ldx, Mov, Add, Sub, And, Or, Xor, Shr, Mul, Ld, St, Jz, Jlt, Wait, Jr, Illegal}
 
--- a number below twice `half` read as two's complement: those from `half` on are negative
+-- F43, `s6` and `s9`: of the numbers below twice `half` those from `half` on are negative
 unfoldable pub signed : ℕ → ℕ → ℤ
 signed half n = if nat_lt n half then pos n else pos n -ℤ pos (2 * half)
 
--- the instruction that has these fields
+-- F43
 unfoldable pub instruction_with : (op a b c n6 n9 : ℕ) → Instruction
 instruction_with op a b c n6 n9 =
     if op == 0 then Nop
@@ -30,7 +29,7 @@ instruction_with op a b c n6 n9 =
     else if n9 == 1 then Jr a
     else Illegal
 
--- the fields of a word: bits 15 to 12, 11 to 9, 8 to 6, 5 to 3, 5 to 0, and 8 to 0
+-- F43, the fields
 abbrev pub instruction_of : ℕ → Instruction
 instruction_of word =
     instruction_with (word / 4096) (word / 512 % 8) (word / 64 % 8) (word / 8 % 8) (word % 64) (word % 512)

@@ -1,5 +1,4 @@
--- Unless it waits or is trapped, a step of level 1's machine does the instruction at pc, which changes
--- registers and stores one word at most, or traps it.
+-- A step of level 1's machine (F43).
 use Rattle.std.specs.Prelude.{ℕ, ◌+◌, ◌-◌, ◌*◌, ◌/◌, ◌%◌, ◌^◌, ℤ, if◌then◌else◌, ◌==◌, nat_lt, slice_index, slice_set, bit_and, bit_or, bit_xor, Option, Some, None}
 use Rattle.std.specs.Int.{w16, cast_unsigned}
 use Rattle.eg_guard.specs.declared.regions.TheConstants.{DATA}
@@ -14,47 +13,43 @@ use Rattle.eg_word.specs.declared.instruction.Instruction.{Instruction}
 use Rattle.eg_word.specs.declared.instruction.Instruction.TheVariants.{Nop, Ldi, Ldx, Mov, Add, Sub, And, Or, Xor, Shr, Mul, Ld, St, Jz, Jlt, Wait, Jr, Illegal}
 use Rattle.eg_word.specs.Instructions.{instruction_of}
 
--- what a step makes: the registers after it, and the address and word that it stores, if any
+-- the registers after a step, and the address and word that it stores, if any
 pub record Step : Type 0 where
   pub registers : Registers
   pub stored : Option (ℕ × ℕ)
 
--- the word in a register
 unfoldable pub reg : Registers → ℕ → ℕ
 reg m a = slice_index m.r a
 
--- the address of the next instruction
+-- F43
 unfoldable pub next : Registers → ℕ
 next m = (m.pc + 1) % 65536
 
--- the address at this distance from the next instruction
+-- F43, where a jump goes
 unfoldable pub beyond : Registers → ℤ → ℕ
 beyond m distance = (next m + cast_unsigned w16 distance) % 65536
 
 -- ---- what instructions have in common ----
 
--- nothing is stored
 abbrev pub no_store : Registers → Step
 no_store m = record { registers = m; stored = None }
 
--- a register gets a word, and the next instruction follows
 abbrev pub set : Registers → ℕ → ℕ → Step
 set m a word = no_store (record m { r = slice_set m.r a word; pc = next m })
 
--- the instruction at this address follows
 abbrev pub jump : Registers → ℕ → Step
 jump m address = no_store (record m { pc = address })
 
--- the machine stops; registers and pc stay
+-- F43: registers and pc stay
 abbrev pub trap : Registers → Trap → Step
 trap m kind = no_store (record m { state = Trapped kind })
 
--- a register gets the word that was loaded; where none may be loaded the machine traps
+-- F43, `ld`
 unfoldable pub load_into : Registers → ℕ → Option ℕ → Step
 load_into m a None = trap m Load
 load_into m a (Some word) = set m a word
 
--- a word is stored, and the next instruction follows; where no store is allowed the machine traps
+-- F43, `st`
 unfoldable pub store_at : Registers → ℕ → ℕ → Step
 store_at m address word =
     if (access Level1 address).store
@@ -63,7 +58,7 @@ store_at m address word =
 
 -- ---- the table ----
 
--- what an instruction does, where `load` gives the word that may be loaded at an address
+-- F43; `load` gives the word at an address, if it may be loaded
 unfoldable pub effect : (ℕ → Option ℕ) → Registers → Instruction → Step
 effect load m Nop = jump m (next m)
 effect load m (Ldi a n) = set m a n
@@ -86,17 +81,15 @@ effect load m Illegal = trap m NoInstruction
 
 -- ---- one step ----
 
--- the instruction at pc is done, where one stands there
 abbrev pub fetch : (ℕ → Option ℕ) → Registers → Option ℕ → Step
 fetch load m None = trap m Fetch
 fetch load m (Some word) = effect load m (instruction_of word)
 
--- a step in a state: a machine that doesn't run stays as it is, and only code is fetched
+-- F43: a machine that doesn't run stays as it is, and only code is fetched
 unfoldable pub step_in : State → (ℕ → Option ℕ) → Registers → Step
 step_in Running load m = if nat_lt m.pc DATA then fetch load m (load m.pc) else trap m Fetch
 step_in Waiting load m = no_store m
 step_in (Trapped kind) load m = no_store m
 
--- one step
 abbrev pub step : (ℕ → Option ℕ) → Registers → Step
 step load m = step_in m.state load m

@@ -1,5 +1,4 @@
--- Level 1's machine loads a word of a guarded memory where it may, its step stores one at most, and its own
--- regions are its data and its outputs.
+-- Level 1's machine over a guarded memory (C23).
 use Rattle.std.specs.Prelude.{ℕ, Bool, true, false, if◌then◌else◌, List, slice_index, slice_set, Option, Some, None}
 use Rattle.eg_guard.specs.declared.regions.Who.TheVariants.{Level1}
 use Rattle.eg_guard.specs.declared.regions.Region.{Region}
@@ -8,24 +7,21 @@ use Rattle.eg_guard.specs.Regions.{access}
 use Rattle.eg_word.specs.declared.registers.Registers.{Registers}
 use Rattle.eg_word.specs.Machine.{step}
 
--- the word that level 1 loads at an address, where it may
+-- C23
 unfoldable pub load_from : List ℕ → ℕ → Option ℕ
 load_from words address = if (access Level1 address).load then Some (slice_index words address) else None
 
--- the words after a store, if any
 abbrev pub put : List ℕ → Option (ℕ × ℕ) → List ℕ
 put words None = words
 put words (Some stored) = slice_set words stored.0 stored.1
 
--- the registers after a step over these words
 abbrev pub registers_after : List ℕ → Registers → Registers
 registers_after words m = (step (load_from words) m).registers
 
--- the words after a step over these words
 abbrev pub words_after : List ℕ → Registers → List ℕ
 words_after words m = put words (step (load_from words) m).stored
 
--- the regions that level 1 may change
+-- C23
 unfoldable pub is_level1_own : Region → Bool
 is_level1_own Data = true
 is_level1_own OutPorts = true

@@ -16,8 +16,8 @@ pub record Makes {T E : Type 0} (made : Step) (m now : Registers) (old new : Sho
   pub memory_unchanged : OnErr result (new ≡ old)
   pub keeps : KeepsMemory old new result
 
--- A call for one step makes what the table of instructions says. It changes no word outside level 1's own
--- regions; and over a memory that shows a view it is a step of level 1's private world with that view.
+-- A call for one step makes what F43 says. It changes no word outside level 1's own regions (C23); and over a
+-- memory that shows a view it is a step of level 1's world with that view (C22).
 pub record IsOneStep {T E : Type 0} (m now : Registers) (old new : ShownMemory)
     (result : Result T E) : Type 0 where
   pub makes : Makes (step (load_from old.words) m) m now old new result

@@ -1,5 +1,4 @@
--- Level 1's private world is its machine, its data and its two outputs; a step changes nothing else, and sees
--- besides the image, the ten readings and the five signals.
+-- Level 1's private world, and a step of it (C22).
 use Rattle.std.specs.Prelude.{◌≡◌, ℕ, ◌+◌, ◌-◌, ◌<◌, if◌then◌else◌, ◌==◌, List, slice_index, slice_set, replicate, Option, Some, None}
 use Rattle.std.specs.List.{slice_range}
 use Rattle.eg_guard.specs.declared.regions.TheConstants.{DATA, IN_PORTS, IN_PORT_COUNT, THROTTLE, IGNITION, RESULTS, RESULT_COUNT}
@@ -11,25 +10,24 @@ use Rattle.eg_word.specs.declared.registers.State.TheVariants.{Running}
 use Rattle.eg_word.specs.declared.registers.Registers.{Registers}
 use Rattle.eg_word.specs.Machine.{Step, step}
 
--- level 1's own: its machine, its 1,024 words of data, and the commands to the plate and to the ignition
+-- C22: level 1's own
 pub record World : Type 0 where
   pub registers : Registers
   pub words : List ℕ
   pub throttle : ℕ
   pub ignition : ℕ
 
--- what level 1 is shown and can't change: the image that it runs, with 0 past its end; the ten readings; and
--- the five signals of level 2
+-- C22: what level 1 sees and can't change. Past its end the image is 0.
 pub record View : Type 0 where
   pub image : List ℕ
   pub ports : List ℕ
   pub results : List ℕ
 
--- the machine at its start: all 0, and it runs
+-- C22
 unfoldable pub new_registers : Registers
 new_registers = record { r = replicate 8 0; pc = 0; state = Running }
 
--- the world at its start
+-- C22
 unfoldable pub new_world : World
 new_world = record {
   registers = new_registers;
@@ -51,7 +49,6 @@ sight_in Protected view world address = None
 sight_in Link view world address = None
 sight_in NoRegion view world address = None
 
--- what level 1 sees at an address, if anything
 unfoldable pub sight : View → World → ℕ → Option ℕ
 sight view world address = sight_in (region_of address) view world address
 
@@ -62,16 +59,14 @@ after_store_in OutPorts world address word =
     if address == THROTTLE then record world { throttle = word } else record world { ignition = word }
 after_store_in _ world address word = world
 
--- the world after a store, if any
 unfoldable pub after_store : World → Option (ℕ × ℕ) → World
 after_store world None = world
 after_store world (Some stored) = after_store_in (region_of stored.0) world stored.0 stored.1
 
--- the world after what a step makes
 unfoldable pub after_step : World → Step → World
 after_step world made = record (after_store world made.stored) { registers = made.registers }
 
--- the world after one step
+-- C22
 unfoldable pub world_step : View → World → World
 world_step view world = after_step world (step (sight view world) world.registers)
 
