@@ -53,11 +53,36 @@ pub fn egasim<S: Store, K: Sink, N: Sink>(
     egasim_on_lines(alloc, words, store, &mut lines, out, notes, steps)
 }
 
-/// Does what the words ask for (docs/FORMATS.md, "Commands"): it reads files from `store`, and then `lines`
-/// to their end, where the command takes lines; writes its text to `out`, counts in `steps` the ticks that it
+/// Does what the words ask for (docs/FORMATS.md, "Commands"): it reads files from `store`, and then `lines` to
+/// their end, where the command takes lines; writes its text to `out`, counts in `steps` the ticks that it
 /// makes, and notes any outcome but Done with one line in `notes`. The words don't hold the program's name.
 /// What was written before a line was refused stays. What `notes` refuses changes no outcome (shown by tests:
 /// no clause on the outcome speaks of it).
+///
+/// Claim 1 (C55, C59, C62; `headline`): On Done each run of which `run`, `table`, `margins`, `record`, `sweep`
+/// or `soak` told keeps the headline, field by field (docs/READING.md).
+/// Claim 15 (`headline`).
+/// Claim 35 (F1, F3; `ends`): On Done the output got exactly the text of the command, by what its files say;
+/// every other outcome but Memory has its cause.
+/// Claim 36 (F3; `completes`): A well-formed command whose files, lines, run and grid are accepted, without a
+/// fault of reading or writing, ends Done or Memory.
+/// Claim 37 (F5; `nothing_put`, `nothing_played`): On Usage, ReadFault or Refused nothing was put, and no tick
+/// was made (but `signals`, `couple`: claims 51, 65).
+/// Claim 48 (C84, F32, F33; `ends`): On Done `replay` and `signals` read all lines, and put exactly the text of
+/// what the model of level 2 says of them.
+/// Claim 49 (F14; `ends`): Every other outcome but Memory has its cause. A refusal names the first: header, the
+/// first bad line by its number, no records.
+/// Claim 51 (F14; `ends`, `nothing_put`): If a line is refused or reading fails, `signals` and `couple` have
+/// put the rows of all before, and `replay` nothing.
+/// Claim 52 (F3; `ends`): On WriteFault or Memory the lines that came are good (`couple`: taken), and a prefix
+/// of their text was put (`replay`: behind the last).
+/// Claim 54 (F3; `completes`): Claim 36 also holds of `replay` and `signals` over a sure source of good lines,
+/// and of `couple` over answers that are taken.
+/// Claim 64 (C89, F35; `ends`): On Done all lines were taken, and the text is exactly that of their rows and of
+/// what is commanded next.
+/// Claim 65 (C89, F37; `ends`): A refusal names the first line that is no answer, breaks a law or is one too
+/// many; what those before say was put.
+/// Claim 72 (`ends`).
 pub fn egasim_on_lines<S: Store, L: Lines, K: Sink, N: Sink>(
     alloc: Global,
     words: &[String],

@@ -10,6 +10,9 @@ ghost use Rattle.eg_laws.specs.Examples.{longest_excess};
 /// (docs/CONCEPT.md, "Lapses"): each stretch of true excess is shorter than R + D ticks, and where an excess
 /// can be confirmed at all, some stretch lasts R + D - 1 ticks. So where D is at most `send` + 1, no excess
 /// stands for `lapse_periods` whole periods. It does nothing when it runs.
+///
+/// Claim 22 (C72; `shorter`, `least`): With no ramp and D at most the period it has fewer than R + D ticks, the
+/// least number for all engines if excess is possible.
 pub fn lapse_bound_is_least()
     ensures shorter { StretchesAreShorter }
     ensures below { NoneStandsSoLong }

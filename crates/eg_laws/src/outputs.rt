@@ -7,9 +7,11 @@ ghost use Rattle.eg_model.specs.Outputs.{SpansDisregardLevel1, RunsDisregardLeve
 /// Level 1 acts by its two outputs alone (docs/CONCEPT.md, "Why the unit reacts"), whatever its image and its
 /// slices, without a fault and under every fault. Where the same is out of order at each tick, and drive and
 /// engine are the same, all is the same but for level 1's own world. On the bench, where the two outputs were
-/// equal after each tick before some tick, the rows up to that tick are equal in every column but the
-/// outputs; so where the outputs are equal after each tick, the rows are the same. It does nothing when it
-/// runs.
+/// equal after each tick before some tick, the rows up to that tick are equal in every column but the outputs;
+/// so where the outputs are equal after each tick, the rows are the same. It does nothing when it runs.
+///
+/// Claim 24 (C70; `records`): Level 1 acts by its two outputs alone: while these are the same, another image
+/// and slice plan give the same rows otherwise.
 pub fn level_1_acts_by_its_outputs()
     ensures spans { SpansDisregardLevel1 }
     ensures histories { RunsDisregardLevel1 }

@@ -22,6 +22,8 @@ use toml::{Table, Value};
 /// breaks. The result is exactly that of `campaign_of`, unless memory runs out, which may happen with any
 /// bytes. The runs keep the rules: they are 1 to 1,000, no two of one name, each with proper names and slices
 /// and with no fault or a valid one.
+///
+/// Claim 39 (`read`).
 pub fn read_campaign(alloc: Global, bytes: &[u8]) -> Result<Vec<RunPlan>, CampaignFault>
     ensures read { IsRead Memory (campaign_of (document_of bytes.now)) (seen (λ runs. runs.items) result) }
     ensures rules { IfOk result (λ runs. AreRuns runs.items) }

@@ -54,6 +54,9 @@ pub(crate) fn first_confirmed(rows: &[Row], threshold: u16, weights: &Weights) -
 /// Does nothing when it runs. Its contract is a law: what is told as the first detection of a run is found at
 /// its tick, nothing is found at an earlier tick, and nothing before it in the order of watches at that tick
 /// (docs/CONCEPT.md, "The report of a run").
+///
+/// Claim 15 (C57, C59, C80): `first` of a report is the least tick at which a watch finds, with that watch;
+/// `reaction`, `stretch`, `peak` of `table` are least numbers.
 pub fn detections_are_first()
     ensures { DetectionLaw }
 {}

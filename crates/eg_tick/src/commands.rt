@@ -16,6 +16,9 @@ pub struct Commands {
 
 /// Does nothing when it runs. Its clause is a law: what a tick commands is the same for all drive rows that
 /// don't reset the unit. So it can be told before the row is known.
+///
+/// Claim 63 (C88): It is the same for all rows that don't reset: the last row's outputs (none as a span
+/// begins), stages and plate.
 pub fn rows_command_alike()
     ensures { RowsCommandAlike }
 {}

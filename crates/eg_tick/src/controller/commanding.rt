@@ -18,6 +18,9 @@ use eg_turns::Outputs;
 impl<E: Engine + Drop, M: Guarded + Drop> Controller<E, M> {
     /// What the next tick commands to the engine, by whether its drive row resets the unit (docs/CONCEPT.md,
     /// "`couple`"). Nothing changes.
+    ///
+    /// Claim 62 (C88): A controller tells exactly what, by the model, the next tick commands to the engine, by
+    /// whether its drive row resets the unit.
     pub fn commands(&self, resets: bool) -> Commands
         ensures { (s : Setting) (drive : DriveRow) (h : List Entry) → drive.reset ≡ resets
             → Stands s self.now.kept h → result ≡ commanded_at s drive h }
