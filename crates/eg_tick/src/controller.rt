@@ -152,8 +152,8 @@ impl<E: Engine + Drop, M: Guarded + Drop> Controller<E, M> {
     /// It is counted in `steps`. A controller makes at most 20,000 ticks. After NoMemory every later tick
     /// answers NoMemory.
     ///
-    /// Claim 34 (C53, C54; `made`): The controller, with counters, tokens and mirrored words, is the model:
-    /// each row that it answers is the model's row.
+    /// Claim 34 (C53, C54; `made`): The controller, with its counters, tokens and mirrored words, does what the
+    /// model does: each row that it answers is the row of the model, for the run that its ticks so far make.
     #[inline(always)]
     pub fn tick(
         &mut self,
