@@ -17,8 +17,8 @@ pub fn bursts_are_sparse()
     ensures fewer { FewerMayDo }
 {}
 
-/// What `bursts_are_sparse` says of bits, of the true excess by the rows of each drive span of the record of a
-/// run on the bench, for each engine. It does nothing when it runs.
+/// What `bursts_are_sparse` says of bits, of the true excess by the rows of each drive span of the record
+/// of a run on the bench, for each engine. It does nothing when it runs.
 ///
 /// Claim 44 (C66): Of n consecutive rows of a drive span, at most `(limit - 1 + n*down)/(up + down)` have true
 /// excess (rounded down), by the weights of the torque, if no true excess is confirmed in the span by the last
