@@ -11,9 +11,8 @@ pub fn reacts_in_time()
     ensures at_once { ReactsAtOnce }
 {}
 
-/// Where a module of level 2 is skipped or disturbed, or both levels halt, the stages are off from R
-/// ticks after the onset, whatever the torque (docs/CONCEPT.md, "Why the unit reacts"). It does nothing
-/// when it runs.
+/// What spoils the answers cuts, whatever the torque (docs/CONCEPT.md, "Why the unit reacts"): what claim 7
+/// says of records, for histories of any engine. It does nothing when it runs.
 pub fn cuts_from_onset()
     ensures { CutsFromOnset }
 {}
