@@ -95,9 +95,8 @@ pub fn egasim_on_lines<S: Store, L: Lines, K: Sink, N: Sink>(
     notes: &mut N,
     steps: &mut Ticks,
 ) -> Outcome
-    // The headline (docs/READING.md, "The headline, field by field"): on Done the report, the record, the
-    // table or the rows that were written are those of the runs that the files say, whatever they hold, and
-    // each of these runs keeps the headline; so does each run that is drawn.
+    // The headline (docs/READING.md, "The headline, field by field"): claims 1 and 15, and claim 59 of the run
+    // that `couple` took.
     ensures headline { result ≡ Done → TellsHeadline (command_of (word_bytes words.now)) (S.shows store.old)
         (change_of K.shows out.old out.new) }
 

@@ -41,7 +41,7 @@ pub trait Guarded {
             ((shows self.new).words ≡ slice_set (shows self.old).words address word) }
         ensures unchanged { OnErr result (shows self.new ≡ shows self.old) }
 
-        // Refused exactly if the memory map allows no store there.
+        // When it is refused.
         ensures refused { IsErrOf result StoreRefused ↔ IsFalse (Regions.access who address).store }
         ensures allowed { OnOk result (IsTrue (Regions.access who address).store) }
 
