@@ -50,6 +50,8 @@ impl<W: Write + Drop> StdSink<W> {
     }
 
     /// An output to this stream, which tells its bytes, as a vector does.
+    ///
+    /// Claim 72 (`shown`).
     pub fn told(stream: W) -> StdSink<W>
         requires { IsSome (W.contents stream) }
         ensures state { result ≡ record { stream = stream; is_told = true; faults = 0 } }

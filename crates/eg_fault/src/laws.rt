@@ -10,10 +10,13 @@ pub fn modules_run_together()
     ensures { RunningLaw }
 {}
 
-/// Laws of what a fault leaves alone (docs/CONCEPT.md, "Faults"): all tracks but one are sound, so that a
-/// brake that the driver presses is taken as pressed; level 1 and level 2, the ticks of answers, and a path
-/// whose latch is open are as without a fault, but for the classes that may change them; and a monitoring
-/// module that isn't wild at a tick wasn't wild at any tick before.
+/// Laws of what a fault leaves alone (docs/CONCEPT.md, "Faults"): a brake that the driver presses is taken as
+/// pressed; level 1 and level 2, the ticks of answers, and a path whose latch is open are as without a fault,
+/// but for the classes that may change them; and a monitoring module that isn't wild at a tick wasn't wild at
+/// any tick before.
+///
+/// Claim 32 (C38; `tracks`): Under each fault, all tracks but one are sound at all ticks. The one that may not
+/// be sound is the same at all ticks.
 pub fn faults_leave_the_rest()
     ensures tracks { OneTrackIsFaulty }
     ensures brake { PressedBrakesAreSeen }

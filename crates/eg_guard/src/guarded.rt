@@ -33,12 +33,15 @@ pub trait Guarded {
         ensures words { AreWords (shows self.now).words };
 
     /// Puts a word at that address, and changes no other. A refusal changes nothing.
+    ///
+    /// Claim 26 (C23, F41; `refused`): A store is refused exactly if the memory map doesn't allow it at that
+    /// address to the level, or the board, that asks for it.
     fn store(&mut self, who: Who, address: u16, word: u16) -> Result<(), StoreRefusal>
         ensures stored { OnOk result
             ((shows self.new).words ≡ slice_set (shows self.old).words address word) }
         ensures unchanged { OnErr result (shows self.new ≡ shows self.old) }
 
-        // Refused exactly if the memory map allows no store there.
+        // When it is refused.
         ensures refused { IsErrOf result StoreRefused ↔ IsFalse (Regions.access who address).store }
         ensures allowed { OnOk result (IsTrue (Regions.access who address).store) }
 

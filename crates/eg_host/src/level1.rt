@@ -102,6 +102,9 @@ impl Level1 {
     }
 
     /// A slice, as `Host::slice` does it, over a memory whose code is the program's.
+    ///
+    /// Claim 25 (C22, C23): Whatever the image, no slice changes a word outside level 1's data and outputs,
+    /// even if memory runs out in it.
     #[inline(always)]
     pub fn slice<M: Guarded>(&mut self, memory: &mut M, budget: u16) -> Result<(), NoMemory>
         requires { IsProgramOf (M.shows memory.old).words self.old.program }

@@ -23,6 +23,9 @@ pub struct PartnerAnswer {
 pub const MOST_ANSWER_BYTES: usize = 46;
 
 /// What a line answers, without its line feed, or None where it is no answer.
+///
+/// Claim 66 (F36): A line is taken as an answer exactly if docs/FORMATS.md says that it is one, and what it
+/// answers is what docs/FORMATS.md says.
 #[tactic(auto, unfolding(crate::specs::Answering::answer_of))]
 pub fn answer_of(line: &[u8]) -> Option<PartnerAnswer>
     ensures { result ≡ answer_of line.now }

@@ -23,9 +23,11 @@ pub struct Recorded {
 /// brake's columns, and a carriage return. The line feed doesn't count.
 pub const MOST_BYTES: usize = 80;
 
-/// What a line below the header writes, without its line feed: for each column a number of one to five digits
-/// that is at most 65535, with commas between them, and perhaps a carriage return. None where it is any other
-/// line.
+/// What a line below the header writes, without its line feed, or None where it is any other line: for each
+/// column a number of one to five digits that is at most 65535, with commas between them, and perhaps a
+/// carriage return.
+///
+/// Claim 50.
 #[tactic(auto, unfolding(crate::specs::Recording::recorded_of))]
 pub fn recorded_of(line: &[u8], columns: Columns) -> Option<Recorded>
     ensures { result ≡ recorded_of columns line.now }

@@ -9,32 +9,41 @@ ghost use Rattle.eg_plant.specs.declared.engine_kind.EngineKind.{EngineKind};
 ghost use Rattle.eg_model.specs.Engines.{bench_of};
 ghost use Rattle.eg_laws.specs.Coverage.{silent_from, wrong_from, RecordsOpenPath2, RecordsCutMoved, RecordsFindClosed, RecordsFindAnswers};
 
-/// A shut-off path that is held closed is found (docs/CONCEPT.md, "Power cycles"): in each test span, at the
-/// tick at which the paths are read back, the watch `start` is found if the fault has begun by then. It does
-/// nothing when it runs.
+/// A shut-off path that is held closed is found (docs/CONCEPT.md, "Power cycles"). It does nothing when it
+/// runs.
+///
+/// Claim 84 (C52, C99): In each test span, `start` finds at tick W of the span, at which the paths are read
+/// back, if a `path1-closed` or a `path2-closed` has begun by this tick.
 pub fn closed_paths_are_found()
     ensures { (engine : EngineKind) → RecordsFindClosed (bench_of engine) }
 {}
 
-/// In each drive span, where a module of level 2 is skipped or disturbed, or both levels halt, path 2 doesn't
-/// conduct from R ticks after the onset, or after the span's begin if that is later, whatever path 1 does
-/// (docs/CONCEPT.md, "Why the unit reacts"). It does nothing when it runs.
+/// What spoils the answers opens path 2 (docs/CONCEPT.md, "Why the unit reacts"). It does nothing when it runs.
+///
+/// Claim 81 (C99): Under `skip`, `disturb` and `halt`, path 2 is open in each drive span from R ticks after the
+/// onset, whether path 1 has opened or not. If the span begins after the onset, the R ticks count from its
+/// beginning.
 pub fn spoiled_answers_open_path_2()
     ensures { (engine : EngineKind) → RecordsOpenPath2 (bench_of engine) }
 {}
 
-/// In each drive span, where a fault moves the send tick out of the window (docs/CONCEPT.md, "Faults"),
-/// path 2 doesn't conduct from R ticks after the onset, or after the span's begin if that is later; and a
-/// watch that cuts is found before these ticks have passed. It does nothing when it runs.
+/// A send tick that is moved out of the answer window (docs/CONCEPT.md, "Faults"). It does nothing when it
+/// runs.
+///
+/// Claim 82 (C99): Under `timing` with an `offset` outside the answer window, path 2 is open in each drive span
+/// from R ticks after the onset, or after the span's beginning if that is later. By then a cutting watch has
+/// found something, if the span lasts so long.
 pub fn moved_answers_are_cut()
     ensures { (engine : EngineKind) → RecordsCutMoved (bench_of engine) }
 {}
 
-/// In each drive span, at which tick wrong answers are found (docs/CONCEPT.md, "Questions and answers"), with
-/// no fault or a listed one that neither moves the send tick nor makes the monitoring module wild. Of the
-/// periods each is judged right up to the last one whose send tick passed before a trip came, or before a
-/// fault spoiled the answers, and each later one wrong. So `answers` is found exactly at the end of the
-/// period by which as many of these are over as confirm, and at no other tick. It does nothing when it runs.
+/// At which tick wrong answers are found (docs/CONCEPT.md, "Questions and answers"). Of the periods each is
+/// judged right up to the last one whose send tick passed before a trip came, or before a fault spoiled the
+/// answers, and each later one wrong. It does nothing when it runs.
+///
+/// Claim 83 (C50, C99): Without a fault, and under each listed fault but `timing` and `wild`, `answers` finds
+/// in a drive span at the one tick that C99 gives, and at no other: the end of the period by which as many
+/// periods with a wrong verdict are over as are enough to confirm.
 pub fn wrong_answers_are_found_exactly()
     ensures { (engine : EngineKind) → RecordsFindAnswers (bench_of engine) }
 {}

@@ -7,9 +7,12 @@ ghost use Rattle.eg_laws.specs.LeastLapse.{least_lapse_bound, StretchesAreShorte
 ghost use Rattle.eg_laws.specs.Examples.{longest_excess};
 
 /// The least bound under lapses, where the D runs of level 2 that confirm an excess fit into one period
-/// (docs/CONCEPT.md, "Lapses"): each stretch of true excess is shorter than R + D ticks, and where an excess
-/// can be confirmed at all, some stretch lasts R + D - 1 ticks. So where D is at most `send` + 1, no excess
-/// stands for `lapse_periods` whole periods. It does nothing when it runs.
+/// (docs/CONCEPT.md, "Lapses"). `lasts` has the reason: some stretch lasts R + D - 1 ticks. By `below`, where D
+/// is at most `send` + 1, no excess stands for `lapse_periods` whole periods. It does nothing when it runs.
+///
+/// Claim 22 (C72; `shorter`, `least`): Under lapses, with a calibration without a ramp and with D at most the
+/// period, each stretch of true excess has fewer than R + D ticks. If D is at most the period and the
+/// calibration lets an excess be confirmed at all, no smaller number serves for all engines.
 pub fn lapse_bound_is_least()
     ensures shorter { StretchesAreShorter }
     ensures below { NoneStandsSoLong }

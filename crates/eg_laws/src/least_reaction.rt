@@ -6,9 +6,12 @@ ghost use Rattle.eg_model.specs.Rows.{rows_of};
 ghost use Rattle.eg_laws.specs.LeastReaction.{StaysOnSoLong, ReactionIsLeast, NeedsCanExceed};
 ghost use Rattle.eg_laws.specs.Examples.{latest_cut};
 
-/// No smaller number than R can stand in the reaction theorem (docs/CONCEPT.md, "Why the unit reacts"):
-/// where an excess can be confirmed at all, there is a history with path 1 closed in which the stages are
-/// still on R - 1 ticks after it was confirmed. It does nothing when it runs.
+/// No smaller number than R can stand in the reaction theorem (docs/CONCEPT.md, "Why the unit reacts").
+/// `stays_on` has the reason: a history with path 1 closed in which the stages are still on R - 1 ticks after
+/// the excess was confirmed. It does nothing when it runs.
+///
+/// Claim 6 (C64; `least`): If the calibration lets an excess be confirmed at all, no number of ticks below R
+/// serves in claim 4 for all engines and all listed faults together.
 pub fn reaction_is_least()
     ensures stays_on { StaysOnSoLong }
     ensures least { ReactionIsLeast }

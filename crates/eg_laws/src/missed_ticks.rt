@@ -3,14 +3,20 @@ ghost use Rattle.eg_laws.specs.MissedTicks.{LapsesKeepMissing, NeverRunsAgain, R
 ghost use Rattle.eg_plant.specs.declared.engine_kind.EngineKind.{EngineKind};
 ghost use Rattle.eg_model.specs.Engines.{bench_of};
 
-/// Under which lapses the reaction takes R ticks at most (docs/CONCEPT.md, "Lapses"), by the rows of each
-/// drive span of the record of a run on the bench. Where level 2, once it has missed a tick, misses at least
-/// one of any `period` ticks in a row, the stages are off from R ticks after a confirmed torque excess; and
-/// whatever the torque from R ticks after each missed tick of the span, with a watch that cuts found by then.
-/// So it is by each lapse whose count begins anew at least once a period. Where level 2 never runs again they
-/// are off from R ticks after the onset, or after the span's begin if that is later. And where one wrong
-/// verdict confirms, path 2 doesn't conduct from R ticks on after any tick of a drive span that a lapse
-/// leaves out. It does nothing when it runs.
+/// Under which lapses the reaction takes R ticks at most (docs/CONCEPT.md, "Lapses"). It does nothing when it
+/// runs.
+///
+/// Claim 93 (C102; `misses`, `lapses`): Under a lapse with `every` from 1 to the period, claims 2, 8, 41 and 47
+/// hold. They hold also under each lapse by which level 2, once it has missed a tick, misses at least one of
+/// any `period` ticks in a row (C102).
+/// Claim 94 (C102; `misses`): Under a lapse of claim 93, the stages are off in a drive span from R ticks after
+/// each tick of the span that level 2 misses, whatever the torque. By then a cutting watch has found something,
+/// if the span lasts so long.
+/// Claim 97 (C102; `one_verdict`): If N is 1, path 2 is open in a drive span from R ticks after each tick of
+/// the span that level 2 misses under a lapse, and `answers` has found something by then, with any ramp.
+/// Claim 95 (C102; `for_good`, `never`): Under the lapse by which level 2 misses each tick from the onset on
+/// (`after = [0]`, `every = 1`), the stages are off in each drive span from R ticks after the onset. If the
+/// span begins after the onset, the R ticks count from its beginning.
 pub fn records_cut_misses()
     ensures misses { (engine : EngineKind) → RecordsCutMisses (bench_of engine) }
     ensures for_good { (engine : EngineKind) → RecordsCutForGood (bench_of engine) }

@@ -5,10 +5,15 @@ ghost use Rattle.eg_values.specs.Reference.{reference_parts};
 ghost use Rattle.eg_laws.specs.Seeing.{SeenExcessIsCut, SeenExcessIsCutInTime};
 ghost use Rattle.eg_laws.specs.Examples.{StaysOn, Shows, high_pedal, low_loads, low_speeds, braked_parts, unseen_brake, left_out, disturbed_between, both_closed, closed_and_wild, missed_last, cut_late, ramped_parts, disturbed_once};
 
-/// The reaction under several faults at once, whatever they are (docs/CONCEPT.md, "Why the unit reacts"):
-/// where level 2 could see an excess at every tick of the span up to the one that confirms it, the stages
-/// are off from the next tick on if path 1 obeys, and from R ticks after it if path 2 obeys, answers are sent
-/// at the usual ticks and the monitoring module isn't wild. It does nothing when it runs.
+/// The reaction under several faults at once, whatever they are (docs/CONCEPT.md, "Why the unit reacts"). It
+/// does nothing when it runs.
+///
+/// Claim 45 (C67; `cut`): Whatever faults there are, if level 2 can see an excess at each tick of a drive span
+/// up to the one that confirms a true excess, the stages are off at each later tick of the span at which path 1
+/// obeys.
+/// Claim 46 (C67; `in_time`): Under the same condition, the stages are off from R ticks after the tick that
+/// confirms, at each tick at which path 2 obeys. This holds if up to then answers are sent at their usual ticks
+/// and the monitoring module isn't wild.
 pub fn seen_excess_is_cut()
     ensures cut { SeenExcessIsCut }
     ensures in_time { SeenExcessIsCutInTime }

@@ -36,6 +36,8 @@ impl<R: Read + Copy + Drop> Model for LateLines<R> {
 
 impl<R: Read + Copy + Drop> LateLines<R> {
     /// The lines of this reader. Takes no memory.
+    ///
+    /// Claim 72 (`shown`).
     pub fn new(alloc: Global, reader: R) -> LateLines<R>
         ensures shown { ⟦<LateLines<R> as Lines>⟧.shows result
             ≡ record { lines = option_map lines_in (R.remaining reader); faults = 0; sure = false } }

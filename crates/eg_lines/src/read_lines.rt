@@ -135,6 +135,10 @@ impl<R: BufRead + Drop> ReadLines<R> {
 impl<R: BufRead + Drop> Lines for ReadLines<R> {
     ghost shows = { shown_by };
 
+    /// The next line of the reader, if there is one.
+    ///
+    /// Claim 58 (F13; `came`): A line that is read from a reader that tells its bytes is the first line that
+    /// was left, or as many of its first bytes as were asked for. The other lines are still to come.
     fn next(&mut self, most: usize, into: &mut Vec<u8>) -> Result<bool, ReadRefusal>
         // Where the reader tells its bytes, this is their first line, or there is none. A refusal loses none.
         ensures came { result ≡ Ok true

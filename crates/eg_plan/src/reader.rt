@@ -19,9 +19,9 @@ use std::collections::HashSet;
 use toml::{Table, Value};
 
 /// The runs that a campaign file says (docs/FORMATS.md, "Campaign files"), or the first rule that the file
-/// breaks. The result is exactly that of `campaign_of`, unless memory runs out, which may happen with any
-/// bytes. The runs keep the rules: they are 1 to 1,000, no two of one name, each with proper names and slices
-/// and with no fault or a valid one.
+/// breaks; or Memory, which may come with any bytes. The runs keep the rules of campaign files (`rules`).
+///
+/// Claim 39 (`read`).
 pub fn read_campaign(alloc: Global, bytes: &[u8]) -> Result<Vec<RunPlan>, CampaignFault>
     ensures read { IsRead Memory (campaign_of (document_of bytes.now)) (seen (λ runs. runs.items) result) }
     ensures rules { IfOk result (λ runs. AreRuns runs.items) }

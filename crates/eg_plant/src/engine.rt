@@ -20,6 +20,9 @@ pub trait Engine {
 
     /// One tick, by what is commanded to the plate and to the ignition (per mille; 1000 is the most that
     /// counts), whether the power stages are on, and where the plate is held (per mille), if it is.
+    ///
+    /// Claim 33 (C6, C19; `laws`): Each engine keeps the laws: after each step its plate stands at 0 to 1000
+    /// per mille, and the torque estimate of neither load lies below the torque that the engine gives.
     fn step(&mut self, plate: u16, ignition: u16, on: bool, held: Option<u16>)
         requires { ForSome held (λ at. at ≤ 1000) }
         ensures steps { steps self.old plate ignition on held self.new }

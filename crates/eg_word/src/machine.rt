@@ -17,6 +17,8 @@ use eg_guard::{Guarded, StoreRefusal, Who};
 
 /// One step of level 1's machine over a guarded memory: the instruction at `pc` is done
 /// (docs/CONCEPT.md, "Level 1"). NoMemory changes nothing.
+///
+/// Claim 27 (C21, F43; `step`): A step of level 1 does what the table of instructions says, and nothing else.
 #[tactic(auto, using(crate::proofs::StepLaws::step_laws))]
 pub fn step<M: Guarded>(registers: &mut Registers, memory: &mut M) -> Result<(), NoMemory>
     // The call makes one step of the table of instructions, and of level 1's private world.
