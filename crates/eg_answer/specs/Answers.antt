@@ -1,6 +1,4 @@
--- The answer to a test row is the fold of its seed and of the five results that level 2's formulas give on
--- the row. Level 2 computes on the row, once when level 2 is made, what it computes on the sensors' readings
--- at each tick.
+-- The right answer to a test row (C30, C31). Level 2 works it out once, when level 2 is made.
 use Rattle.std.specs.Prelude.{ℕ, ◌+◌, ◌*◌, false, List, [], ◌∷◌}
 use Rattle.eg_sensor.specs.Readings.{used_pedal}
 use Rattle.eg_answer.specs.Folds.{fold_of}
@@ -8,36 +6,35 @@ use Rattle.eg_answer.specs.Formulas.{permitted_torque, estimated_torque, excess_
 use Rattle.eg_answer.specs.declared.rules.Rules.{Rules}
 use Rattle.eg_answer.specs.declared.rules.TestRow.{TestRow}
 
--- the lower of the two pedal values
+-- the first result: the lower of the two pedal values
 unfoldable pub pedal_result : TestRow → ℕ
 pedal_result row = used_pedal row.readings.pedal false
 
--- the permitted torque of the row's own pedal, and of the speeds and the raise that are read
+-- the second: the permitted torque by the row's own pedal, and by the speeds and the raise that are read
 unfoldable pub permitted_result : Rules → TestRow → ℕ
 permitted_result rules row = permitted_torque rules row.readings row.used
 
--- the torque estimate of the higher load
+-- the third: the estimate of the higher load
 unfoldable pub estimate_result : Rules → TestRow → ℕ
 estimate_result rules row = estimated_torque rules row.readings
 
--- 1 where the row's own estimate is an excess over what the row allows, else 0
+-- the fourth: 1 if the row's own estimate is an excess over what the row allows, else 0
 unfoldable pub excess_result : Rules → TestRow → ℕ
 excess_result rules row = excess_number rules row.allowed row.estimate
 
--- the bits of the pairs that disagree
+-- the fifth: the bits of the pairs that disagree
 unfoldable pub pairs_result : Rules → TestRow → ℕ
 pairs_result rules row = disagreeing_pairs rules row.readings
 
--- the five results, in the order of the modules that compute them
 unfoldable pub results_of : Rules → TestRow → List ℕ
 results_of rules row =
     pedal_result row ∷ permitted_result rules row ∷ estimate_result rules row ∷ excess_result rules row
     ∷ pairs_result rules row ∷ []
 
--- the answer to a row
+-- the answer to a row: the fold of its results (C31)
 unfoldable pub expected_of : Rules → TestRow → ℕ
 expected_of rules row = fold_of row.seed (results_of rules row)
 
--- the number that the monitoring module expects to hear: 255 in the high word, and the answer in the low word
+-- the number that the monitoring module expects to hear: 255 in the high word, the answer in the low word (C32)
 unfoldable pub answer_number : ℕ → ℕ
 answer_number answer = 255 * 65536 + answer

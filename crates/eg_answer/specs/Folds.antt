@@ -1,9 +1,8 @@
--- The fold of a seed and results rotates the bits so far by three places for each result, and mixes the
--- result in by exclusive or. It is one number of 16 bits, and one-to-one in each single result.
+-- The fold of a seed and of results (C31), and the law that it is one-to-one in each single result.
 use Rattle.std.specs.Prelude.{◌≡◌, ℕ, ◌<◌, ◌^◌, List, length, All, fold, slice_set, bit_xor}
 use Rattle.std.specs.Int.{w16, rotate_left}
 
--- one result more: the bits so far rotated by three places, and the result mixed in by exclusive or
+-- one result more
 unfoldable pub mixed : ℕ → ℕ → ℕ
 mixed bits result = bit_xor (rotate_left w16 bits 3) result
 
@@ -11,8 +10,8 @@ mixed bits result = bit_xor (rotate_left w16 bits 3) result
 unfoldable pub fold_of : ℕ → List ℕ → ℕ
 fold_of seed results = fold mixed seed results
 
--- The law, for a seed and results of 16 bits, however many: where the result at one place is a or b, equal
--- folds tell that a is b. So results that differ in exactly one place have different folds.
+-- For a seed and results of 16 bits, however many: if only the result at one place may be a or b, equal folds
+-- show that a is b. So results that differ in exactly one place have different folds.
 abbrev pub FoldLaw : Type 0
 FoldLaw = (seed : ℕ) (results : List ℕ) (index a b : ℕ) →
     seed < 2 ^ 16 → All (λ result. result < 2 ^ 16) results → a < 2 ^ 16 → b < 2 ^ 16 →

@@ -1,6 +1,5 @@
--- Level 2 is eight modules, which run in this order: check, pedal, permitted, actual, excess, pairs, debounce
--- and react. Each has a number, from 0 on. What is said of those that run at a tick, and of those that are
--- disturbed, stands here too.
+-- The eight modules of level 2, by their numbers from 0 on (C24), and what is said of those that run at a tick and
+-- of those that are disturbed.
 use Rattle.std.specs.Prelude.{ℕ, ◌≡◌, ◌^◌, ◌≤◌, ◌<◌, ◌==◌, ◌⊎◌, Bool, true, false, not, List, [], ◌∷◌, ◌++◌, if◌then◌else◌}
 use Rattle.eg_answer.specs.declared.modules.TheConstants.{CHECK, PEDAL, PERMITTED, ACTUAL, EXCESS, PAIRS, DEBOUNCE, REACT}
 
@@ -14,7 +13,7 @@ modules = modules_before_react ++ REACT ∷ []
 
 -- ---- which of them run at a tick ----
 
--- all of them, where `ran i` says whether module i runs; none; or all but one
+-- all of them, if `ran i` says whether module i runs; none; or all but one
 abbrev pub AllRun : (ran : ℕ → Bool) → Type 0
 AllRun ran = (i : ℕ) → ran i ≡ true
 
@@ -26,11 +25,11 @@ OthersRun one ran = (i : ℕ) → ran i ≡ not (i == one)
 
 -- ---- which of them are disturbed at a tick ----
 
--- none of them, where module i mixes in `disturbance i`
+-- none of them, if module i mixes in `disturbance i`
 abbrev pub NoneIsDisturbed : (disturbance : ℕ → ℕ) → Type 0
 NoneIsDisturbed disturbance = (i : ℕ) → disturbance i ≡ 0
 
--- one of the modules from pedal to pairs, by some of the 16 bits, and no other
+-- one of the modules 1 to 5, by some of the 16 bits, and no other
 pub record OneIsDisturbed (disturbance : ℕ → ℕ) : Type 0 where
   pub one : ℕ
   pub mask : ℕ

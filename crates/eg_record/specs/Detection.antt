@@ -1,5 +1,4 @@
--- The first detection of a run is the least tick at which a watch is found, with the first watch in their
--- order that is found at it. The first cut is the same among the watches that cut.
+-- The first detection of a run, and its first cut (C57).
 use Rattle.std.specs.Prelude.{◌≡◌, ◌↔◌, ℕ, ◌<◌, ◌==◌, Bool, false, ◌||◌, IsTrue, List, [], ◌∷◌, map, Option, Some, None, option_map}
 use Rattle.std.specs.List.{All, Contains, find}
 use Rattle.eg_num.specs.declared.watches.Watches.{Watches}
@@ -12,7 +11,6 @@ use Rattle.eg_record.specs.Rows.{AreRows, first_given}
 abbrev pub watches : List Watch
 watches = Mirror ∷ Pedal ∷ Plate ∷ Load ∷ Speed ∷ Torque ∷ Answers ∷ Start ∷ []
 
--- whether a watch is found, where these are found
 unfoldable pub is_found : Watches → Watch → Bool
 is_found found Mirror = found.mirror
 is_found found Pedal = found.pedal
@@ -31,15 +29,14 @@ first_watch found = find (is_found found) watches
 unfoldable pub detected_at : Row → Option (Watch × ℕ)
 detected_at row = option_map (λ watch. (watch, row.tick)) (first_watch row.found)
 
--- the first detection, or none
 unfoldable pub first_detection : List Row → Option (Watch × ℕ)
 first_detection rows = first_given detected_at rows
 
--- of these watches those that cut: all but those of the pedal and of a start-up test
+-- those that cut: all but `pedal` and `start`
 unfoldable pub cutting : Watches → Watches
 cutting found = record found { pedal = false; start = false }
 
--- one of these watches trips: level 2 opens path 1 by itself. All that cut do but that of the answers.
+-- Level 2 opens path 1 by itself: one of the cutting watches but `answers` found something.
 unfoldable pub is_trip : Watches → Bool
 is_trip found = found.mirror || found.plate || found.load || found.speed || found.torque
 
@@ -47,7 +44,6 @@ is_trip found = found.mirror || found.plate || found.load || found.speed || foun
 unfoldable pub cutting_at : Row → Row
 cutting_at row = record row { found = cutting row.found }
 
--- the first detection among the watches that cut, or none
 unfoldable pub first_cut : List Row → Option (Watch × ℕ)
 first_cut rows = first_detection (map cutting_at rows)
 

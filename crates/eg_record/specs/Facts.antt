@@ -1,6 +1,4 @@
--- The facts of a run are its first detection, first cut, first tick off, last tick on, first confirmed true
--- excess, longest stretch of excess, its peak, and how many ticks it has. They are what is told of its rows
--- once they are gone.
+-- The facts of a run: what is told of its rows once they are gone (C59, C80).
 use Rattle.std.specs.Prelude.{ℕ, ◌+◌, ◌-◌, nat_lt, List, length, Option, Some, None, option_map, if◌then◌else◌}
 use Rattle.eg_num.specs.Windows.{WeightParts}
 use Rattle.eg_word.specs.declared.registers.Trap.{Trap}
@@ -29,9 +27,8 @@ unfoldable pub off_from : (last_on : Option ℕ) → ℕ
 off_from None = 0
 off_from (Some last) = last + 1
 
--- How many ticks pass from the one by which a true excess is confirmed until the stages are off for good, 0
--- where they are off for good before. There is none where no excess is confirmed, or the stages are on at the
--- last tick before the end.
+-- The ticks from the one that confirms a true excess until the stages are off for good: 0 if they are off for good
+-- before, none if no excess is confirmed or the stages are on at the last tick before the end.
 abbrev pub reaction_by : (last_on confirmed : Option ℕ) → (end : ℕ) → Option ℕ
 reaction_by last_on confirmed end =
     if nat_lt (off_from last_on) end then option_map (λ c. off_from last_on - c) confirmed else None

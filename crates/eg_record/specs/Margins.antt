@@ -1,6 +1,4 @@
--- How near a run came to a cut: the greatest weights that the debouncers of six watches reached while the
--- engine is driven, and how far level 2's estimate of the torque came above what it permits. Lists stand
--- newest first.
+-- How near a run came to a cut (C82, C83). Lists stand newest first.
 use Rattle.std.specs.Prelude.{◌≡◌, ℕ, ℤ, pos, ◌-ℤ◌, int_lt, Bool, false, not, ◌&&◌, List, [], ◌∷◌, map, drop, slice_index, Option, Some, None, if◌then◌else◌}
 use Rattle.std.specs.List.{list_any}
 use Rattle.eg_num.specs.Windows.{greatest_of}
@@ -43,11 +41,10 @@ weighed_where is_so (w ∷ before) =
 
 -- ---- what is told of them ----
 
--- the greatest number that one of the debouncers weighs at a row of a drive span, 0 where there is none
+-- the greatest number that one of the debouncers weighs at a row of a drive span, 0 if there is none
 unfoldable pub greatest_weight : (weight : Counters → ℕ) → List Weighed → ℕ
 greatest_weight weight weighed = greatest_of (map (λ w. weight w.counters) (weighed_where is_driven weighed))
 
--- how far the actual torque of level 2 lies above the permitted one, a number below 0 where it lies below it
 unfoldable pub surplus_at : Row → ℤ
 surplus_at row = pos (slice_index row.signals 2) -ℤ pos (slice_index row.signals 1)
 

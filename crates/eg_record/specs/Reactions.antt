@@ -1,6 +1,5 @@
--- The reaction of a span is the ticks from its confirmed true excess until the stages are off for good in it;
--- of a run the longest is told. So is whether each span goes on long enough after the excess to show one. All
--- ticks are those of the run.
+-- The reactions of the spans of a run (C80), and whether each span goes on long enough to show one (C81). All ticks
+-- are those of the run.
 use Rattle.std.specs.Prelude.{ℕ, ◌+◌, ◌-◌, Bool, true, max, min, nat_le, List, [], ◌∷◌, map, Option, Some, None, option_map, if◌then◌else◌}
 use Rattle.std.specs.Option.{option_or}
 use Rattle.eg_num.specs.Windows.{WeightParts, is_confirmed}
@@ -25,13 +24,13 @@ unfoldable pub end_of : List Row → ℕ
 end_of [] = 0
 end_of (row ∷ before) = row.tick + 1
 
--- The reaction in it: how many ticks pass from the one by which the excess is confirmed until the stages are
--- off for good. There is none where no excess is confirmed, or the stages are on at the last tick.
+-- the ticks from the one that confirms until the stages are off for good; none if no excess is confirmed or the stages
+-- are on at the span's last tick
 unfoldable pub reaction_in_span : WeightParts → (threshold : ℕ) → List Row → Option ℕ
 reaction_in_span weights threshold span =
     reaction_by (last_on span) (confirmed_in weights threshold span) (end_of span)
 
--- how many ticks of it follow the first one by which the excess is confirmed, or none where it isn't
+-- the number of its ticks behind the one that confirms, or none
 unfoldable pub followed_in : WeightParts → (threshold : ℕ) → List Row → Option ℕ
 followed_in weights threshold span =
     option_map (λ c. end_of span - (c + 1)) (confirmed_in weights threshold span)
@@ -60,8 +59,7 @@ combined these others = record {
   followed = less these.followed others.followed;
 }
 
--- what is told of one span, and of several: the longest reaction, and the least number of ticks that follow
--- the first one by which an excess is confirmed in a span
+-- of one span, and of several: the longest reaction, and the least number of ticks behind a confirmation
 unfoldable pub reactions_in : WeightParts → (threshold : ℕ) → List Row → Reactions
 reactions_in weights threshold span = record {
   longest = reaction_in_span weights threshold span;
@@ -77,12 +75,11 @@ reactions_of_spans weights threshold (span ∷ earlier) =
 unfoldable pub reactions_of : WeightParts → (threshold : ℕ) → List Row → Reactions
 reactions_of weights threshold rows = reactions_of_spans weights threshold (spans_of rows)
 
--- the least number of ticks that follow is the bound or more, or no excess is confirmed
+-- that least number is the bound or more, or no excess is confirmed
 unfoldable pub settled_by : (bound : ℕ) → Option ℕ → Bool
 settled_by bound None = true
 settled_by bound (Some ticks) = nat_le bound ticks
 
--- Each span in which an excess is confirmed has `bound` ticks or more after the first one by which it is
--- confirmed, so that the run shows whether a reaction takes more than `bound` ticks.
+-- C81, with any number for R
 unfoldable pub is_settled : (bound : ℕ) → Reactions → Bool
 is_settled bound reactions = settled_by bound reactions.followed

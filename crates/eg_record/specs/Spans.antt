@@ -1,11 +1,9 @@
--- A span begins at each fresh row and lasts to the row before the next fresh one; its first row tells whether
--- it is a drive or a test span. In a drive span the engine is driven; in a test span the shut-off paths are
--- tested.
+-- Drive spans and test spans of rows (C40). A span begins at a fresh row and ends before the next fresh one.
 use Rattle.std.specs.Prelude.{◌≡◌, ℕ, true, false, List, [], ◌∷◌, ◌++◌, length, if◌then◌else◌}
 use Rattle.std.specs.List.{All}
 use Rattle.eg_record.specs.declared.row.Row.{Row}
 
--- of these rows, those of the span that the last one belongs to
+-- of these rows, those of the last one's span
 unfoldable pub this_span : List Row → List Row
 this_span [] = []
 this_span (row ∷ before) = row ∷ (if row.fresh then [] else this_span before)

@@ -1,5 +1,4 @@
--- A calibration has rules, a plant, times, questions, and whether the brake counts; it is accepted where each
--- part keeps its limits and they go together, each question's answer being right.
+-- A calibration and when it is accepted (C74).
 use Rattle.std.specs.Prelude.{◌≡◌, ℕ, ◌≤◌, ◌<◌, ◌^◌, Bool, List, length, All}
 use Rattle.eg_num.specs.Interpolation.{IsGrid, IsCurve}
 use Rattle.eg_num.specs.Windows.{AreWeights}
@@ -13,7 +12,6 @@ use Rattle.eg_answer.specs.declared.questions.Question.{Question}
 use Rattle.eg_values.specs.declared.calibration.Apart.{Apart}
 use Rattle.eg_values.specs.declared.calibration.Apart.TheVariants.{Torque, Few, Answer}
 
--- the rules of level 2, the plant, the times of the answers, the questions, and whether the brake counts
 pub record CalibrationParts : Type 0 where
   pub rules : Rules
   pub plant : PlantParts
@@ -21,33 +19,30 @@ pub record CalibrationParts : Type 0 where
   pub questions : List Question
   pub brake : Bool
 
--- the parts of a calibration that is made of these five
 abbrev pub made_of : Rules → PlantParts → TimeParts → List Question → Bool → CalibrationParts
 made_of rules plant times questions brake =
     record { rules = rules; plant = plant; times = times; questions = questions; brake = brake }
 
--- the question's answer is the fold of its row
+-- the question's answer is right (C31)
 abbrev pub HasRightAnswer : Rules → Question → Type 0
 HasRightAnswer rules question = question.answer ≡ expected_of rules question.row
 
--- the answer of each question is the fold of its row
 abbrev pub AreAnswered : Rules → List Question → Type 0
 AreAnswered rules questions = All (HasRightAnswer rules) questions
 
--- question i, the first being 0, is the first whose answer isn't the fold of its row
+-- question i, from 0 on, is the first whose answer isn't right
 pub record IsFirstWrong (rules : Rules) (questions : List Question) (i : ℕ) : Type 0 where
   pub within : i < length questions
   pub wrong : ¬ HasRightAnswer rules (question_at questions i)
   pub first : (k : ℕ) → k < i → HasRightAnswer rules (question_at questions k)
 
--- the parts go together: one torque of a load of 1000, two questions at least, and each question's answer is
--- the fold of its row
+-- the parts go together: both have one `kt`, there are two questions or more, and each has the right answer
 pub record GoTogether (c : CalibrationParts) : Type 0 where
   pub one_kt : c.rules.kt ≡ c.plant.kt
   pub two_questions : 2 ≤ length c.questions
   pub answered : AreAnswered c.rules c.questions
 
--- why the parts don't go together, where no reason that stands before it in `Apart` applies
+-- a reason why the parts don't go together, and no reason before it in `Apart` applies
 abbrev pub IsApart : CalibrationParts → Apart → Type 0
 IsApart c Torque = ¬ (c.rules.kt ≡ c.plant.kt)
 IsApart c Few = (c.rules.kt ≡ c.plant.kt) × (length c.questions < 2)
@@ -59,8 +54,7 @@ pub record HasWords (c : CalibrationParts) : Type 0 where
   pub seeds : All (λ question. question.row.seed < 2 ^ 16) c.questions
   pub values : All (λ value. value < 2 ^ 16) c.rules.permit.values
 
--- An accepted calibration: each part keeps its limits, and they go together. The laws of a run ask no more of
--- a calibration than this.
+-- C74. The laws of a run ask no more of a calibration than this.
 pub record IsAccepted (c : CalibrationParts) : Type 0 where
   pub grid : IsGrid c.rules.permit
   pub permit : DoesNotFall c.rules.permit

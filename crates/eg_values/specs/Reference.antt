@@ -1,5 +1,4 @@
--- The reference calibration has a permit table of three pedals and three speeds, periods of 10 ticks, four
--- questions with their answers, and a brake that doesn't count.
+-- The reference calibration (C75).
 use Rattle.std.specs.Prelude.{ℕ, false, List, [], ◌∷◌}
 use Rattle.eg_num.specs.Interpolation.{Grid}
 use Rattle.eg_torque.specs.declared.ramp.TheConstants.{NO_RAMP}
@@ -9,7 +8,7 @@ use Rattle.eg_answer.specs.declared.rules.Rules.{Rules}
 use Rattle.eg_answer.specs.declared.questions.Question.{Question}
 use Rattle.eg_values.specs.Calibration.{CalibrationParts}
 
--- the permitted torque in tenths of Nm, by pedal (rows) and speed (columns)
+-- in tenths of Nm, by pedal (rows) and speed (columns)
 abbrev pub reference_permit : Grid
 reference_permit = record {
   rows = 0 ∷ 500 ∷ 1000 ∷ [];
@@ -17,8 +16,6 @@ reference_permit = record {
   values = 200 ∷ 100 ∷ 0 ∷ 1000 ∷ 1200 ∷ 900 ∷ 2000 ∷ 2400 ∷ 1800 ∷ [];
 }
 
--- the rules of level 2: permit table, no ramp, `kt`, threshold, the tolerances of pedal, plate, load and
--- speed, and the weights of the pairs and of the torque
 abbrev pub reference_rules : Rules
 reference_rules = record {
   permit = reference_permit;
@@ -30,7 +27,6 @@ reference_rules = record {
   torque = record { up = 1; down = 1; limit = 5 };
 }
 
--- the data of the plant
 abbrev pub reference_plant : PlantParts
 reference_plant = record {
   slew = 50;
@@ -39,7 +35,6 @@ reference_plant = record {
   kt = 2500;
 }
 
--- the times of the answers, in ticks, and their weights
 abbrev pub reference_times : TimeParts
 reference_times = record {
   period = 10;
