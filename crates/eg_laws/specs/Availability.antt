@@ -1,9 +1,5 @@
--- Under lapses whose misses lie far enough apart wrong answers never cut before a trip, since right verdicts
--- take back what those that a miss spoils, two at most, add. Where level 2 misses a tick before the send tick
--- of its period, that period's answer is bad; where it misses one after the send tick, the answer of the next
--- period is bad; and where it misses the send tick itself, no answer comes in that period, and the next
--- answer is bad. (After a trip no answer is sent, so that wrong answers are confirmed then.) Rows stand
--- newest first.
+-- C73: wrong answers don't open path 2 before a trip if level 2's misses are spaced or few, and without a
+-- ramp no trip comes unless there is a full-efficiency excess. Rows stand newest first.
 use Rattle.std.specs.Prelude.{◌≡◌, ◌⊎◌, ℕ, zero, suc, ◌+◌, ◌≤◌, ◌<◌, Bool, true, false, not, if◌then◌else◌, List, [], ◌∷◌, ◌++◌, All, length, Option, Some}
 use Rattle.std.specs.List.{list_any}
 use Rattle.eg_num.specs.declared.watches.Watches.{Watches}
@@ -31,25 +27,24 @@ use Rattle.eg_model.specs.Records.{IsRun}
 
 -- ---- which lapses ----
 
--- level 2 misses a tick of a run with this fault: not all of its modules run
+-- not all modules of level 2 run at this tick
 unfoldable pub misses_tick : Option Fault → ℕ → Bool
 misses_tick fault tick = not (is_whole (effects fault tick))
 
--- of the ticks of a run from `start` on and before `end`, any two that level 2 misses lie at least `distance`
--- ticks apart
+-- of the misses from tick `start` on and before tick `end` any two lie at least `distance` ticks apart
 abbrev pub MissesAreSpaced : Option Fault → (distance start end : ℕ) → Type 0
 MissesAreSpaced fault distance start end =
     (first second : ℕ) → start ≤ first → second < end → misses_tick fault first ≡ true →
     misses_tick fault second ≡ true → first < second → first + distance ≤ second
 
--- this holds where one tick alone is left out, and where one is left out every `distance` ticks or more
+-- C73: so lie those of a lapse of a single tick, or of one tick in every `distance` or more
 abbrev pub SingleMissesAreSpaced : Type 0
 SingleMissesAreSpaced =
     (onset after every distance start end : ℕ) → (every ≡ 0) ⊎ (distance ≤ every) →
     MissesAreSpaced (Some (record { onset = onset; class = Lapse (after ∷ []) every })) distance start end
 
--- The fault is a lapse, and by the calibration its misses from tick `start` on and before tick `end` lie so
--- far apart that wrong answers don't cut before a trip. Of its misses at other ticks nothing is asked.
+-- The fault is a lapse whose misses in these ticks lie as far apart as C73 asks. Its other misses don't
+-- matter.
 pub record IsSpacedLapse (s : Setting) (start end : ℕ) : Type 0 where
   pub has : HasMissSpacing s.cal.times
   pub lapse : IsLapse s.fault
@@ -57,37 +52,35 @@ pub record IsSpacedLapse (s : Setting) (start end : ℕ) : Type 0 where
 
 -- ---- the laws, for a history that begins at any tick of a run, by the misses at its own ticks ----
 
--- as long as no trip has come wrong answers aren't confirmed, nor is path 2 ordered open
+-- C73: before a trip
 abbrev pub KeepsPath2 : Type 0
 KeepsPath2 =
     (s : Setting) → IsAccepted s.cal → (start : ℕ) (h : List Tick) →
     IsSpacedLapse s start (start + length h) → Follows s.fault start h →
     tripped (moments_of s h) ≡ false → latch2 (moments_of s h) ≡ false
 
--- how many of the n ticks of a run from tick `start` on level 2 misses
+-- of the n ticks of a run from tick `start` on
 unfoldable pub missed_ticks : Option Fault → (start n : ℕ) → ℕ
 missed_ticks fault start zero = 0
 missed_ticks fault start (suc n) =
     (if misses_tick fault (start + n) then 1 else 0) + missed_ticks fault start n
 
--- Nor are they where few ticks are missed in all, wherever these lie: all that they spoil weighs less than
--- the limit.
+-- C73: before a trip, if few ticks are missed, wherever they lie
 abbrev pub FewMissesKeepPath2 : Type 0
 FewMissesKeepPath2 =
     (s : Setting) → IsAccepted s.cal → IsLapse s.fault → (start : ℕ) (h : List Tick) →
     Follows s.fault start h → missed_ticks s.fault start (length h) ≤ silent_misses_of s.cal.times →
     tripped (moments_of s h) ≡ false → latch2 (moments_of s h) ≡ false
 
--- so a trip alone cuts: the stages are on at the tick x after h exactly if none has come by the last of h
+-- C73: the stages are on at the tick x after h exactly if no trip has come in h
 abbrev pub TripsAloneCut : Type 0
 TripsAloneCut =
     (s : Setting) → IsAccepted s.cal → (start : ℕ) (h : List Tick) (x : Tick) →
     IsSpacedLapse s start (start + length h) → Follows s.fault start (x ∷ h) →
     is_on_after s h x ≡ not (tripped (moments_of s h))
 
--- And under any lapse no trip comes where there is no ramp, the full-efficiency excess comes at no tick,
--- and the engine shows one load twice at each. (With a ramp level 2 may miss the tick from which permitted
--- torque comes down, and then its own is lower: `a_miss_cuts_on_the_ramp` of `eg_runs`.)
+-- C73. With a ramp a trip may come: after a missed tick level 2's permitted torque is too low if the
+-- permitted torque comes down from that tick (`a_miss_cuts_on_the_ramp` of `eg_runs`).
 abbrev pub NoTripComes : Type 0
 NoTripComes =
     (s : Setting) → IsAccepted s.cal → s.cal.rules.fall ≡ NO_RAMP → IsLapse s.fault →
@@ -97,37 +90,32 @@ NoTripComes =
 
 -- ---- the rows of a drive span, or of its part up to any tick ----
 
--- a watch is found that trips
 unfoldable pub trips : Watches → Bool
 trips found = some_trips found.mirror found.plate found.load found.speed found.torque
 
--- such a watch was found at one of these rows
 unfoldable pub has_tripped : List Row → Bool
 has_tripped rows = list_any (λ row. trips row.found) rows
 
--- What stays on under such a lapse by these rules, by the rows of a drive span.
+-- C73, by the rows of a drive span
 pub record StaysAvailable (rules : Rules) (rows : List Row) : Type 0 where
-  -- as long as no trip has come, wrong answers aren't found, and path 2 conducts
+  -- before a trip
   pub answered : (later before : List Row) (row : Row) → rows ≡ later ++ row ∷ before →
       has_tripped (row ∷ before) ≡ false → row.found.answers ≡ false
   pub conducts : (later before : List Row) (row : Row) → rows ≡ later ++ row ∷ before →
       has_tripped before ≡ false → row.path2 ≡ true
-  -- the stages are on at each row exactly if no trip came at an earlier one
   pub cut_by_trips : (later before : List Row) (row : Row) → rows ≡ later ++ row ∷ before →
       row.on ≡ not (has_tripped before)
-  -- and without a ramp, where the full-efficiency excess comes at no row, the stages are on at each, and
-  -- no trip comes
+  -- if there is no ramp, and no full-efficiency excess at any of these rows
   pub stays_on : rules.fall ≡ NO_RAMP → All (λ row. full_excess rules.kt rules.threshold row ≡ false) rows →
       All (λ row. row.on ≡ true) rows × (has_tripped rows ≡ false)
 
--- this is so if the misses at the ticks of these rows are spaced
 abbrev pub AvailableIfSpaced : Setting → (start : ℕ) → List Row → Type 0
 AvailableIfSpaced s start rows =
     IsSpacedLapse s start (start + length rows) → StaysAvailable s.cal.rules rows
 
 -- ---- of every record ----
 
--- in each drive span at whose ticks the misses of a lapse are spaced wrong answers don't cut before a trip
+-- claim 23
 abbrev pub RecordsStayAvailable : {E : Type 0} → BenchEngine E → Type 0
 RecordsStayAvailable b =
     (r : Run) → IsRun r → IsNoneOrValid r.setting.fault →

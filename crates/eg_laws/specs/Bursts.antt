@@ -1,5 +1,5 @@
--- How many ticks of a window can have true excess where it isn't confirmed by the last of them: what a
--- calibration lets through, be it again and again. Bits of feeds and rows stand newest first.
+-- C66: how many ticks of a window can have true excess if it isn't confirmed by the last of them. Bits of
+-- feeds and rows stand newest first.
 use Rattle.std.specs.Prelude.{◌≡◌, ℕ, zero, suc, ◌+◌, ◌*◌, ◌-◌, ◌/◌, ◌≤◌, Bool, true, false, not, List, [], ◌∷◌, ◌++◌, length, map, count_by, min}
 use Rattle.eg_num.specs.Windows.{WeightParts, AreWeights, is_reached, is_confirmed}
 use Rattle.eg_record.specs.declared.row.Row.{Row}
@@ -10,17 +10,14 @@ use Rattle.eg_model.specs.Bench.{Run}
 use Rattle.eg_model.specs.Rows.{record_rows}
 use Rattle.eg_model.specs.Records.{IsRun}
 
--- A bound for the bad ones of n feeds in a row by which the limit isn't reached: what the bad ones add, `up`
--- each, is less than the limit and what the good ones take, `down` each, together.
+-- C66: B(n). A window of n feeds that doesn't reach the limit has at most so many bad ones.
 unfoldable pub most_bad : WeightParts → ℕ → ℕ
 most_bad w n = (w.limit - 1 + n * w.down) / (w.up + w.down)
 
--- how many of these feeds are bad
 unfoldable pub bad_in : List Bool → ℕ
 bad_in window = count_by (λ bad. bad) window
 
--- The law: where the limit wasn't reached by the last feed of a window, at most `most_bad` of its feeds are
--- bad, whatever came before it.
+-- C66, whatever was fed before the window
 abbrev pub BurstsAreSparse : Type 0
 BurstsAreSparse =
     (w : WeightParts) → AreWeights w → (window before : List Bool) →
@@ -28,13 +25,12 @@ BurstsAreSparse =
 
 -- ---- so many can be bad ----
 
--- n feeds, each of them bad but where it would reach the limit
+-- n feeds, each of them bad unless it would reach the limit
 unfoldable pub densest : WeightParts → ℕ → List Bool
 densest w zero = []
 densest w (suc n) = not (is_reached w (true ∷ densest w n)) ∷ densest w n
 
--- Where the limit is at least `up` and `down` together, these feeds don't reach it, and as many of them are
--- bad as the law allows, or all.
+-- C66: so many can be bad, or all n
 abbrev pub SoManyCanBeBad : Type 0
 SoManyCanBeBad =
     (w : WeightParts) → AreWeights w → w.up + w.down ≤ w.limit → (n : ℕ) →
@@ -44,8 +40,8 @@ SoManyCanBeBad =
 abbrev pub hasty : WeightParts
 hasty = record { up = 1; down = 2; limit = 2 }
 
--- Elsewhere it may be fewer, since what a good feed would take below 0 is lost. By these weights half of the
--- feeds can be bad at most, or one more than the good ones; the law's number is two thirds.
+-- With these weights, whose limit is less than `up + down`, fewer can be bad than C66 allows: at most half of
+-- the feeds, rounded up, where B(n) is about two thirds. What a good feed would take below 0 is lost.
 abbrev pub FewerMayDo : Type 0
 FewerMayDo =
     (window before : List Bool) → is_confirmed hasty (window ++ before) ≡ false →
@@ -53,14 +49,14 @@ FewerMayDo =
 
 -- ---- the rows of a drive span, or of its part up to any tick ----
 
--- of the rows of any window by which the true excess isn't confirmed at most `most_bad` have true excess
+-- C66
 abbrev pub RowsAreSparse : WeightParts → (threshold start : ℕ) → List Row → Type 0
 RowsAreSparse weights threshold start rows =
     (later window before : List Row) → rows ≡ later ++ (window ++ before) →
     is_confirmed weights (map (true_excess threshold) (window ++ before)) ≡ false →
     bad_in (map (true_excess threshold) window) ≤ most_bad weights (length window)
 
--- so it is in each drive span of every record
+-- claim 44
 abbrev pub RecordsAreSparse : {E : Type 0} → BenchEngine E → Type 0
 RecordsAreSparse b =
     (r : Run) → IsRun r →

@@ -1,7 +1,6 @@
--- Outside the headline. By what each class of faults is found, and in which time, by the rows of a record:
--- where no answer is right any more path 2 is open from R ticks on; a path that is held closed is found as
--- the paths are read back; and wrong answers are found exactly at the tick at which the verdicts say so. Rows
--- stand newest first, and the ticks of a span are counted from 0.
+-- Outside the headline. C99: by when path 2 opens if no answer is good, by when a closed path is found in a
+-- test, and at which tick `answers` finds. Rows stand newest first, and the ticks of a span are counted from
+-- 0.
 use Rattle.std.specs.Prelude.{◌≡◌, ℕ, ◌+◌, ◌*◌, ◌≤◌, ◌==◌, Bool, true, false, not, ◌&&◌, ◌||◌, max, nat_le, List, [], ◌∷◌, ◌++◌, All, length, Option, Some, None, IfSome, if◌then◌else◌}
 use Rattle.std.specs.Option.{option_or}
 use Rattle.eg_answer.specs.Times.{TimeParts, feeds_to_confirm, reaction_of, test_ticks_of}
@@ -23,24 +22,23 @@ use Rattle.eg_laws.specs.Paths.{trips}
 
 -- ---- path 2 ----
 
--- Of a drive span that begins at tick `start`, or of its part up to any tick: path 2 doesn't conduct from
--- `bound` ticks after the onset, or after the span's begin if that is later.
+-- path 2 is open from `bound` ticks after the onset, or after tick `start`, at which the drive span begins,
+-- if that is later
 abbrev pub OpensPath2 : (onset bound start : ℕ) → List Row → Type 0
 OpensPath2 onset bound start rows = All (λ row. max onset start + bound ≤ row.tick → row.path2 ≡ false) rows
 
--- So it is where a module of level 2 is skipped or disturbed, or both levels halt, whatever path 1 does.
+-- C99: under `skip`, `disturb` and `halt`
 abbrev pub SpoiledOpenPath2 : Option Fault → (bound start : ℕ) → List Row → Type 0
 SpoiledOpenPath2 fault bound start rows = IfSome fault (λ f. spoils_answers f.class ≡ true →
     OpensPath2 f.onset bound start rows)
 
--- the class that moves the send tick, where it moves it out of the window in which an answer may come
+-- `timing` with a tick outside the answer window
 unfoldable pub sends_outside : TimeParts → Class → Bool
 sends_outside times (Timing offset) = not (nat_le times.first offset && nat_le offset times.last)
 sends_outside times _ = false
 
--- Where it is moved out of the window path 2 doesn't conduct from then on either, and a watch that cuts is
--- found before those ticks have passed. (`before` are the rows of the span up to the last of these ticks.
--- Where the span ends sooner nothing is said of them.)
+-- C99: under such a `timing` path 2 opens likewise, and a cutting watch has found something by then. `before`
+-- are the rows of the span up to the last of these ticks; nothing is said if the span ends sooner.
 pub record IsCutInTime (onset bound start : ℕ) (rows : List Row) : Type 0 where
   pub opens : OpensPath2 onset bound start rows
   pub found : (later before : List Row) → rows ≡ later ++ before →
@@ -52,14 +50,12 @@ MovedAreCut times fault bound start rows = IfSome fault (λ f. sends_outside tim
 
 -- ---- a path that is held closed ----
 
--- the classes that hold a shut-off path closed
 unfoldable pub holds_closed : Class → Bool
 holds_closed Path1Closed = true
 holds_closed Path2Closed = true
 holds_closed _ = false
 
--- Of a test span: where a path is held closed, the watch `start` is found at the row at which the paths are
--- read back, which has the number `read_back` in the span, if the fault has begun by then.
+-- C99: in a test span; `read_back` is W
 abbrev pub ClosedAreFound : Option Fault → (read_back start : ℕ) → List Row → Type 0
 ClosedAreFound fault read_back start rows = IfSome fault (λ f. holds_closed f.class ≡ true →
     (later before : List Row) (row : Row) → rows ≡ later ++ row ∷ before → length before ≡ read_back →
@@ -67,65 +63,60 @@ ClosedAreFound fault read_back start rows = IfSome fault (λ f. holds_closed f.c
 
 -- ---- at which tick wrong answers are found ----
 
--- a fault that spoils each answer has begun by a tick
 unfoldable pub spoils_at : Option Fault → ℕ → Bool
 spoils_at None tick = false
 spoils_at (Some fault) tick = nat_le fault.onset tick && spoils_answers fault.class
 
--- The first of these rows of a span at which a watch trips, or such a fault acts, by its number in the span.
--- From then on no answer is good: after a trip none is sent.
+-- C99: the first of these rows from which on no answer is good, by its number in the span: a watch trips
+-- there, or the fault acts. (After a trip no answer is sent.)
 unfoldable pub silent_from : Option Fault → List Row → Option ℕ
 silent_from fault [] = None
 silent_from fault (row ∷ before) = option_or (silent_from fault before)
     (if trips row || spoils_at fault row.tick then Some (length before) else None)
 
--- the first period whose verdict is wrong, where no answer is good from a tick on: that of the tick, or the
--- next one if its send tick has passed
+-- C99: the first period whose verdict is wrong if no answer is good from this tick on
 unfoldable pub wrong_from : TimeParts → ℕ → ℕ
 wrong_from times tick =
     if nat_le (place_of times tick) times.send then period_of times tick else period_of times tick + 1
 
--- whether wrong answers are confirmed at a tick, where no answer is good from another tick on, if there is
--- such a one: at the end of the period by which as many verdicts were wrong as confirm
+-- wrong answers are confirmed at this tick if no answer is good from tick `from` on
 unfoldable pub confirmed_at : TimeParts → Option ℕ → ℕ → Bool
 confirmed_at times None tick = false
 confirmed_at times (Some from) tick =
     tick + 1 == (wrong_from times from + feeds_to_confirm times.weights) * times.period
 
--- At each row of a drive span `answers` is found exactly if wrong answers are confirmed there, by the first
--- silent one of the rows up to it.
+-- C99, for the rows of a drive span
 abbrev pub FindsAnswersExactly : TimeParts → Option Fault → (start : ℕ) → List Row → Type 0
 FindsAnswersExactly times fault start rows =
     (later before : List Row) (row : Row) → rows ≡ later ++ row ∷ before →
     row.found.answers ≡ confirmed_at times (silent_from fault (row ∷ before)) (length before)
 
--- the fault, if any, neither moves the send tick nor makes the monitoring module wild
+-- neither `timing` nor `wild`
 abbrev pub SparesAnswers : Option Fault → Type 0
 SparesAnswers fault = IfSome fault (λ f. may_change_answers f.class ≡ false)
 
 -- ---- of every record ----
 
--- with no fault or a valid one: in each drive span what spoils the answers opens path 2 within R
+-- claim 81
 abbrev pub RecordsOpenPath2 : {E : Type 0} → BenchEngine E → Type 0
 RecordsOpenPath2 b =
     (r : Run) → IsRun r → IsNoneOrValid r.setting.fault →
     EachDriveSpan (SpoiledOpenPath2 r.setting.fault (reaction_of r.setting.cal.times)) (record_rows b r)
 
--- and a send tick that is moved out of the window is found and cut within R
+-- claim 82
 abbrev pub RecordsCutMoved : {E : Type 0} → BenchEngine E → Type 0
 RecordsCutMoved b =
     (r : Run) → IsRun r →
     EachDriveSpan (MovedAreCut r.setting.cal.times r.setting.fault (reaction_of r.setting.cal.times))
     (record_rows b r)
 
--- in each test span a path that is held closed is found
+-- claim 84
 abbrev pub RecordsFindClosed : {E : Type 0} → BenchEngine E → Type 0
 RecordsFindClosed b =
     (r : Run) →
     EachTestSpan (ClosedAreFound r.setting.fault (test_ticks_of r.setting.cal.times)) (record_rows b r)
 
--- with no fault, or a listed one but those that change when answers come and how they are judged: in each
--- drive span wrong answers are found exactly
+-- claim 83
 abbrev pub RecordsFindAnswers : {E : Type 0} → BenchEngine E → Type 0
 RecordsFindAnswers b =
     (r : Run) → IsRun r → IsListed r.setting.fault → SparesAnswers r.setting.fault →

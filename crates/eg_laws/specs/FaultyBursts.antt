@@ -1,5 +1,5 @@
--- Outside the headline. How many rows of a window can have true excess, whether it is confirmed or not, with
--- no fault or a listed one; and that so many can. Rows and ticks stand newest first.
+-- Outside the headline. C66: how many rows of a window can have true excess, whether it is confirmed or not.
+-- Rows and ticks stand newest first.
 use Rattle.std.specs.Prelude.{◌≡◌, ℕ, ◌+◌, ◌*◌, ◌-◌, ◌≤◌, List, ◌++◌, All, length, map, take, min, Option}
 use Rattle.eg_num.specs.Arithmetic.{quotient_up}
 use Rattle.eg_num.specs.Windows.{WeightParts}
@@ -22,28 +22,27 @@ use Rattle.eg_laws.specs.Bursts.{most_bad, bad_in}
 
 -- ---- the rows of a drive span, or of its part up to any tick ----
 
--- of the rows of any window at most `most_bad` of their number less `after`, and `after` more, have true
--- excess
+-- C66: B(n - after) + after
 abbrev pub RowsEndBursts : WeightParts → (threshold after start : ℕ) → List Row → Type 0
 RowsEndBursts weights threshold after start rows =
     (later window before : List Row) → rows ≡ later ++ (window ++ before) →
     bad_in (map (true_excess threshold) window) ≤ most_bad weights (length window - after) + after
 
--- where the reaction is at once when the excess is confirmed, `after` is 1
+-- C66, where the reaction is at once when the excess is confirmed
 abbrev pub RowsEndBurstsAtOnce : Option Fault → WeightParts → (threshold start : ℕ) → List Row → Type 0
 RowsEndBurstsAtOnce fault weights threshold start rows =
     (later window before : List Row) → rows ≡ later ++ (window ++ before) →
     IsAtOnceWhenConfirmed fault weights start (map (true_excess threshold) (window ++ before)) →
     bad_in (map (true_excess threshold) window) ≤ most_bad weights (length window - 1) + 1
 
--- with no fault or a listed one: in each drive span of every record `after` is R
+-- claim 67
 abbrev pub RecordsEndBursts : {E : Type 0} → BenchEngine E → Type 0
 RecordsEndBursts b =
     (r : Run) → IsRun r → IsListed r.setting.fault →
     EachDriveSpan (RowsEndBursts r.setting.cal.rules.torque r.setting.cal.rules.threshold
     (reaction_of r.setting.cal.times)) (record_rows b r)
 
--- and 1 where the reaction is at once
+-- claim 68
 abbrev pub RecordsEndBurstsAtOnce : {E : Type 0} → BenchEngine E → Type 0
 RecordsEndBurstsAtOnce b =
     (r : Run) → IsRun r → IsListed r.setting.fault →
@@ -52,8 +51,8 @@ RecordsEndBurstsAtOnce b =
 
 -- ---- so many of them can have it ----
 
--- A history under this setting's fault, or none, that is one drive span in which the engine keeps its laws
--- and tells loads that are words; and of its last n ticks at least so many have true excess.
+-- C66: a history of one drive span whose loads are words, and in whose last n ticks at least `many` have true
+-- excess
 pub record HasExcesses (s : Setting) (n many : ℕ) : Type 0 where
   pub listed : IsListed s.fault
   pub h : List Tick
@@ -64,15 +63,14 @@ pub record HasExcesses (s : Setting) (n many : ℕ) : Type 0 where
   pub within : n ≤ length h
   pub excesses : many ≤ bad_in (take n (true_excesses s h))
 
--- The tick from which path 1 is held closed in it. It comes right after the one by which the excess is
--- confirmed, and that one right after a send tick, behind n ticks of bursts, and others.
+-- The tick from which path 1 is held closed. It comes right after the tick that confirms the excess, and that
+-- comes right after a send tick, behind n ticks of bursts.
 unfoldable pub burst_onset : CalibrationParts → (n : ℕ) → ℕ
 burst_onset cal n =
     quotient_up (feeds_to_confirm cal.rules.torque + n) cal.times.period * cal.times.period
     + cal.times.send + 2
 
--- Where an excess can be confirmed at all, and the limit is at least `up` and `down` together: so many as the
--- law allows with R can have it, or all, if a run is long enough;
+-- claim 69 for claim 67; a run has at most 20,000 ticks
 abbrev pub BurstsLast : Type 0
 BurstsLast =
     (cal : CalibrationParts) → IsAccepted cal → CanExceed cal →
@@ -82,7 +80,7 @@ BurstsLast =
     HasExcesses (closed_from (burst_onset cal before) cal) n
     (min n (most_bad cal.rules.torque before + reaction_of cal.times))
 
--- and as many as with 1 where the reaction is at once, as without a fault.
+-- claim 69 for claim 68
 abbrev pub BurstsLastUntilConfirmed : Type 0
 BurstsLastUntilConfirmed =
     (cal : CalibrationParts) → IsAccepted cal → CanExceed cal →

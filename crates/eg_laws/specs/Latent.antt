@@ -1,5 +1,5 @@
--- Outside the headline. Which faults can stay hidden: there are runs of every length in which they act, and
--- no watch finds anything.
+-- Outside the headline. C100: under which faults there are runs of every length in which no watch finds
+-- anything.
 use Rattle.std.specs.Prelude.{ℤ, pos, negsuc, ◌+◌, ◌-◌, ◌/◌, ◌≤◌, ◌<◌, slice_index, ◌==◌, ◌||◌, nat_le, min, max, ◌⊎◌, ◌≡◌, ◌≢◌, ℕ, Bool, true, false, List, [], ◌∷◌, All, length, replicate, Some, if◌then◌else◌}
 use Rattle.eg_num.specs.Arithmetic.{estimate}
 use Rattle.eg_num.specs.Interpolation.{grid_at}
@@ -22,12 +22,11 @@ use Rattle.eg_model.specs.Lapses.{IsLapse}
 use Rattle.eg_laws.specs.Availability.{MissesAreSpaced}
 use Rattle.eg_laws.specs.SharpUnder.{leaves_readings}
 
--- no watch is found at a row
 abbrev pub FindsNothing : Row → Type 0
 FindsNothing row = (watch : Watch) → is_found row.found watch ≡ false
 
--- A run of n ticks with this calibration and under this fault, in which the unit is never reset, and no watch
--- finds anything at any tick. Level 1 has no code, and executes nothing.
+-- A run of n ticks without a reset in which no watch finds anything. Level 1 has no code, and executes
+-- nothing.
 pub record HiddenRun {E : Type 0} (b : BenchEngine E) (cal : CalibrationParts) (fault : Fault) (n : ℕ)
     : Type 0 where
   pub run : Run
@@ -40,20 +39,18 @@ pub record HiddenRun {E : Type 0} (b : BenchEngine E) (cal : CalibrationParts) (
   pub driven : All (λ drive. drive.reset ≡ false) run.drive
   pub hidden : All FindsNothing (record_rows b run)
 
--- The fault can stay hidden: there is such a run of each length. (So there are such runs that last as long as
--- one likes after the tick at which the fault begins.)
+-- C100. A run may be as long as one likes, so that it may go on as long as one likes after the onset.
 abbrev pub CanStayHidden : {E : Type 0} → BenchEngine E → CalibrationParts → Fault → Type 0
 CanStayHidden b cal fault = (n : ℕ) → HiddenRun b cal fault n
 
 -- ---- by every accepted calibration ----
 
--- The classes that leave alone what level 2 reads and does, and when answers come: a plate that is held, a
--- monitoring module that is wild, whatever it asks and orders, and those of the shut-off paths.
+-- `plate`, `wild`, `path1-closed`, `path2-closed` and `path-open`
 unfoldable pub always_hides : Class → Bool
 always_hides (Timing offset) = false
 always_hides other = leaves_readings other
 
--- each valid fault of these classes can stay hidden
+-- claim 85
 abbrev pub ReadingsApartHide : {E : Type 0} → BenchEngine E → Type 0
 ReadingsApartHide b =
     (cal : CalibrationParts) → IsAccepted cal → (fault : Fault) → IsValid fault →
@@ -61,21 +58,19 @@ ReadingsApartHide b =
 
 -- ---- lapses ----
 
--- The fault is a lapse whose misses lie so far apart that wrong answers never cut before a trip. (A lapse of
--- one tick alone is such a one: `SingleMissesAreSpaced`.)
+-- a lapse with misses as far apart as C73 asks; a lapse of a single tick is one (`SingleMissesAreSpaced`)
 pub record MissesFarApart (cal : CalibrationParts) (fault : Fault) : Type 0 where
   pub has : HasMissSpacing cal.times
   pub lapse : IsLapse (Some fault)
   pub spaced : (end : ℕ) → MissesAreSpaced (Some fault) (miss_spacing_of cal.times) 0 end
 
--- each such lapse can stay hidden
+-- claim 86
 abbrev pub FarMissesHide : {E : Type 0} → BenchEngine E → Type 0
 FarMissesHide b =
     (cal : CalibrationParts) → IsAccepted cal → (fault : Fault) → IsValid fault →
     MissesFarApart cal fault → CanStayHidden b cal fault
 
--- A lapse that leaves out one tick alone, or one every so many ticks that the misses lie far enough apart, is
--- such a one: it can stay hidden where two wrong verdicts don't confirm and a right one takes something back.
+-- claim 86, for a lapse that leaves out one tick, or one in every so many
 abbrev pub SingleMissesHide : {E : Type 0} → BenchEngine E → Type 0
 SingleMissesHide b =
     (cal : CalibrationParts) → IsAccepted cal → HasMissSpacing cal.times → (onset after every : ℕ) →
@@ -83,12 +78,11 @@ SingleMissesHide b =
     IsValid (record { onset = onset; class = Lapse (after ∷ []) every }) →
     CanStayHidden b cal (record { onset = onset; class = Lapse (after ∷ []) every })
 
--- the lapse that leaves out one tick alone, so many after its onset
+-- one tick is left out, so many after the onset
 abbrev pub single_miss : (onset after : ℕ) → Fault
 single_miss onset after = record { onset = onset; class = Lapse (after ∷ []) 0 }
 
--- Where one wrong verdict isn't enough to confirm, each such lapse can stay hidden if its tick isn't a send
--- tick of a run without a reset. (There is such a tick by every calibration, as the one behind a send tick.)
+-- Claim 98. Each calibration has such ticks: those behind a send tick, for example.
 abbrev pub OneMissHides : {E : Type 0} → BenchEngine E → Type 0
 OneMissHides b =
     (cal : CalibrationParts) → IsAccepted cal → cal.times.weights.up < cal.times.weights.limit →
@@ -97,7 +91,7 @@ OneMissHides b =
 
 -- ---- offsets ----
 
--- how far an offset moves a reading, up or down, and how far up
+-- how far an offset moves a reading up or down, and how far up
 unfoldable pub distance_of : ℤ → ℕ
 distance_of (pos more) = more
 distance_of (negsuc less) = less + 1
@@ -106,16 +100,15 @@ unfoldable pub rise_of : ℤ → ℕ
 rise_of (pos more) = more
 rise_of (negsuc less) = 0
 
--- The offset moves the readings of a track of a pair by no more than the pair's tolerance; and if the track
--- is one of the load, the greatest raise permits the torque estimate of the greatest load that is then
--- read.
+-- Claim 87: within the pair's tolerance. On a track of the load the greatest raise also permits the estimate
+-- of the greatest load that is then read.
 pub record IsSmallOffset (cal : CalibrationParts) (track : ℕ) (add : ℤ) : Type 0 where
   pub paired : track < PAIRED_TRACKS
   pub small : distance_of add ≤ slice_index cal.rules.tolerances (track / 2)
   pub load : track / 2 ≡ 2 →
       estimate cal.rules.kt (1000 + rise_of add) ≤ 10000 + cal.rules.threshold
 
--- each such offset can stay hidden
+-- claim 87
 abbrev pub SmallOffsetsHide : {E : Type 0} → BenchEngine E → Type 0
 SmallOffsetsHide b =
     (cal : CalibrationParts) → IsAccepted cal → (onset track : ℕ) (add : ℤ) →
@@ -124,22 +117,21 @@ SmallOffsetsHide b =
 
 -- ---- scripts ----
 
--- A track of the pedal or of the speed. Where nobody touches the pedal and the engine stands still, it reads
--- always the same if it is sound: 1000 the second track of the pedal, which falls, and 0 each other one.
+-- A sound track of pedal or speed always reads the same while the pedal and the engine are at rest: 1000 if
+-- it is the second track of the pedal, else 0.
 abbrev pub IsStillTrack : ℕ → Type 0
 IsStillTrack track = (track / 2 ≡ 0) ⊎ (track / 2 ≡ 3)
 
 unfoldable pub still_reading : ℕ → ℕ
 still_reading track = if track == PEDAL_2 then 1000 else 0
 
--- The script is on such a track, and no value of it lies further from that reading, up or down, than the
--- pair's tolerance.
+-- claim 92: no value lies further from that reading than the pair's tolerance
 pub record IsSmallScript (cal : CalibrationParts) (track : ℕ) (values : List ℕ) : Type 0 where
   pub still : IsStillTrack track
   pub near : All (λ value. (value - still_reading track) + (still_reading track - value)
       ≤ slice_index cal.rules.tolerances (track / 2)) values
 
--- each such script can stay hidden
+-- claim 92
 abbrev pub SmallScriptsHide : {E : Type 0} → BenchEngine E → Type 0
 SmallScriptsHide b =
     (cal : CalibrationParts) → IsAccepted cal → (onset track : ℕ) (values : List ℕ) →
@@ -148,49 +140,47 @@ SmallScriptsHide b =
 
 -- ---- at rest ----
 
--- There is a speed at which there is no excess at rest: with the pedal and the raise at 0 the permit table
--- permits there the torque estimate of the load that the engine shows before its first step.
+-- At some speed there is no excess at rest: what the permit table gives at pedal 0 permits the load that the
+-- engine shows before its first step.
 pub record IsCalmAtRest {E : Type 0} (b : BenchEngine E) (cal : CalibrationParts) : Type 0 where
   pub speed : ℕ
   pub within : speed ≤ 8000
   pub calm : estimate cal.rules.kt (b.shows (b.rest cal.plant)).load_1
       ≤ grid_at cal.rules.permit 0 speed + cal.rules.threshold
 
--- an offset that is cut off where pedal and plate stand at 0: one down of a first track, or one up of a
--- second track, which falls
+-- An offset that is cut off where pedal and plate stand at 0: down on a first track, or up on a second one,
+-- which falls.
 unfoldable pub is_cut_off : ℕ → ℤ → Bool
 is_cut_off track (pos more) = track == PEDAL_2 || track == PLATE_2
 is_cut_off track (negsuc less) = track == PEDAL_1 || track == PLATE_1
 
--- The classes that change nothing that counts where pedal, plate and raise are at 0: flipped bits of the
--- raise, whose check word then refuses it; whatever is read of a contact of the brake; and offsets that are
--- cut off.
+-- These change nothing while pedal, plate and raise are 0: a disturbed raise, which its check word refuses;
+-- whatever a contact of the brake reads; and an offset that is cut off.
 unfoldable pub hides_at_rest : Class → Bool
 hides_at_rest (Bus mask) = true
 hides_at_rest (Script track values) = nat_le PAIRED_TRACKS track
 hides_at_rest (Offset track add) = nat_le PAIRED_TRACKS track || is_cut_off track add
 hides_at_rest _ = false
 
--- each valid fault of these classes can stay hidden by a calibration with which it is calm at rest
+-- claim 89
 abbrev pub RestHides : {E : Type 0} → BenchEngine E → Type 0
 RestHides b =
     (cal : CalibrationParts) → IsAccepted cal → IsCalmAtRest b cal → (fault : Fault) → IsValid fault →
     hides_at_rest fault.class ≡ true → CanStayHidden b cal fault
 
--- the diesel engine shows no load at rest, so that it is calm then by every calibration
+-- claim 89: it shows no load at rest
 abbrev pub DieselIsCalm : Type 0
 DieselIsCalm = (cal : CalibrationParts) → IsCalmAtRest diesel cal
 
 -- ---- a send tick that is moved ----
 
--- The period in which the send tick is moved keeps one answer: in that period the move comes no later than
--- both the usual send tick and the moved one, or later than both.
+-- The onset's period has one answer: the onset isn't later than both the usual and the moved send tick, or is
+-- later than both.
 abbrev pub KeepsOneAnswer : TimeParts → (onset offset : ℕ) → Type 0
 KeepsOneAnswer times onset offset =
     (place_of times onset ≤ min times.send offset) ⊎ (max times.send offset < place_of times onset)
 
--- each send tick that is moved within the window, and at such a tick, can stay hidden, and at any tick where
--- one wrong verdict isn't enough to confirm
+-- claim 88
 abbrev pub MovesInWindowHide : {E : Type 0} → BenchEngine E → Type 0
 MovesInWindowHide b =
     (cal : CalibrationParts) → IsAccepted cal → (onset offset : ℕ) →

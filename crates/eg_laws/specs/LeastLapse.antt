@@ -1,6 +1,5 @@
--- Outside the headline. The least bound for stretches of excess under lapses, in ticks: R + D, where D runs
--- of level 2 confirm an excess and D is at most a period. (The bound of `Lapses` in `eg_model` is greater,
--- and holds of more calibrations.)
+-- Outside the headline. C72: the least bound for stretches of excess under lapses is R + D, if D is at most
+-- the period. The bound of `Lapses` in `eg_model` is greater, and holds of more calibrations.
 use Rattle.std.specs.Prelude.{◌≡◌, ℕ, ◌+◌, ◌-◌, ◌*◌, ◌≤◌, true, false, List, [], ◌++◌, ◌∷◌, All, replicate, Some}
 use Rattle.eg_num.specs.Arithmetic.{estimate}
 use Rattle.eg_num.specs.Drive.{DriveRow}
@@ -15,25 +14,23 @@ use Rattle.eg_model.specs.Premises.{AreProper, Follows}
 use Rattle.eg_model.specs.Lapses.{Exceeds, StretchesStayBelow}
 use Rattle.eg_laws.specs.LeastReaction.{CanExceed, GoesOn, ShowsWord, giving, by_bits}
 
--- the runs of level 2 that confirm an excess, D of them, fit into one period
+-- D is at most the period
 abbrev pub RunsFit : CalibrationParts → Type 0
 RunsFit cal = feeds_to_confirm cal.rules.torque ≤ cal.times.period
 
--- the least bound, R + D, in ticks
+-- R + D, in ticks
 unfoldable pub least_lapse_bound : CalibrationParts → ℕ
 least_lapse_bound cal = reaction_of cal.times + feeds_to_confirm cal.rules.torque
 
--- Where there is no ramp, and these runs fit into a period, each stretch of true excess is shorter than
--- this number. For no answer is good once D ticks of the stretch have passed: level 2 would have run at
--- all of them, and found the excess.
+-- C72. No answer is good once D ticks of the stretch have passed, since otherwise level 2 ran at all of them
+-- and found the excess.
 abbrev pub StretchesAreShorter : Type 0
 StretchesAreShorter =
     (cal : CalibrationParts) → IsAccepted cal → cal.rules.fall ≡ NO_RAMP → RunsFit cal →
     StretchesStayBelow cal (least_lapse_bound cal)
 
--- Where there is no ramp, and these runs are at most as many as the ticks of a period up to its send tick,
--- no excess stands for the whole periods of `CutsStandingExcess` (`eg_model`), so that that law says
--- nothing there.
+-- If D is at most `send + 1`, no excess stands for the whole periods of `CutsStandingExcess` (`eg_model`), so
+-- that this law says nothing then.
 abbrev pub NoneStandsSoLong : Type 0
 NoneStandsSoLong =
     (cal : CalibrationParts) → IsAccepted cal → cal.rules.fall ≡ NO_RAMP →
@@ -42,11 +39,11 @@ NoneStandsSoLong =
 
 -- ---- the history that shows that no smaller number is a bound ----
 
--- level 2 misses every tick from the one on that comes after the send tick of the second period
+-- the tick after the send tick of the second period
 unfoldable pub lapse_onset : CalibrationParts → ℕ
 lapse_onset cal = cal.times.period + cal.times.send + 1
 
--- the class of that lapse
+-- level 2 misses every tick from the onset on
 abbrev pub missing_all : Class
 missing_all = Lapse (0 ∷ []) 1
 
@@ -57,19 +54,18 @@ lapse_setting cal = record {
   fault = Some (record { onset = lapse_onset cal; class = missing_all });
 }
 
--- the ticks before the lapse, newest first: quiet ones, and then D - 1 of excess, one less than confirms it
+-- newest first: quiet ticks, and then D - 1 of excess, one too few to confirm it
 abbrev pub before_lapse : CalibrationParts → DriveRow → (load : ℕ) → List Tick
 before_lapse cal drive load =
     by_bits cal drive load (replicate (feeds_to_confirm cal.rules.torque - 1) true
     ++ replicate (lapse_onset cal + 1 - feeds_to_confirm cal.rules.torque) false)
 
--- a tick of the lapse: level 2 misses it, and the excess is the same
+-- a tick that level 2 misses, with the same excess
 abbrev pub missed_excess : CalibrationParts → DriveRow → (load : ℕ) → Tick
 missed_excess cal drive load =
     record { effects = effects_of missing_all 0; entry = giving drive load (estimate cal.rules.kt load) }
 
--- All ticks of h are ticks of one drive span of a run under the setting's fault, in which the engine keeps
--- its laws and tells loads that are words; and there is true excess at each of the last n.
+-- h is one drive span under the setting's fault, and there is true excess at each of its last n ticks.
 pub record Lasts (s : Setting) (h : List Tick) (n : ℕ) : Type 0 where
   pub follows : Follows s.fault 0 h
   pub proper : AreProper s h
@@ -77,7 +73,7 @@ pub record Lasts (s : Setting) (h : List Tick) (n : ℕ) : Type 0 where
   pub words : All ShowsWord h
   pub exceeds : Exceeds s n h
 
--- so the excess lasts one tick less than the bound: D - 1 ticks before the lapse, and R ticks under it
+-- the excess lasts R + D - 1 ticks: D - 1 before the lapse, and R under it
 abbrev pub ExcessLastsSoLong : Type 0
 ExcessLastsSoLong =
     (cal : CalibrationParts) → IsAccepted cal → RunsFit cal → (can : CanExceed cal) →
@@ -87,7 +83,7 @@ ExcessLastsSoLong =
     ++ before_lapse cal can.drive can.load)
     (least_lapse_bound cal - 1)
 
--- and where an excess can be confirmed at all no smaller number is a bound
+-- C72
 abbrev pub LapseBoundIsLeast : Type 0
 LapseBoundIsLeast =
     (cal : CalibrationParts) → IsAccepted cal → RunsFit cal → CanExceed cal → (bound : ℕ) →

@@ -1,7 +1,5 @@
--- Outside the headline. R is the least number of ticks that can stand in the reaction theorem. For each
--- accepted calibration under which an excess can be confirmed at all there is a history, with path 1
--- closed and nothing else out of order, in which the stages are still on R - 1 ticks after the true excess
--- was confirmed.
+-- Outside the headline. C64: R is the least number for the reaction theorem, shown by a history with path 1
+-- stuck closed in which the stages are still on R - 1 ticks after the confirmed excess.
 use Rattle.std.specs.Prelude.{◌≡◌, ℕ, ◌+◌, ◌*◌, ◌-◌, ◌^◌, ◌≤◌, ◌<◌, Bool, true, false, List, [], ◌++◌, ◌∷◌, All, map, length, replicate, Some, if◌then◌else◌}
 use Rattle.eg_num.specs.Arithmetic.{estimate}
 use Rattle.eg_num.specs.Drive.{DriveRow, IsDrive}
@@ -19,8 +17,7 @@ use Rattle.eg_model.specs.Reaction.{ReactsBy}
 
 -- ---- under which calibrations an excess can be confirmed ----
 
--- some drive row within its limits, at which the unit isn't reset, and some load that is a word, whose torque
--- is more than what the row permits and the threshold together
+-- C64: an excess can be confirmed by this calibration
 pub record CanExceed (cal : CalibrationParts) : Type 0 where
   pub drive : DriveRow
   pub within : IsDrive drive
@@ -29,12 +26,11 @@ pub record CanExceed (cal : CalibrationParts) : Type 0 where
   pub is_word : load < 2 ^ 16
   pub exceeds : is_excess (estimate cal.rules.kt load) (demand_at cal drive) cal.rules.threshold ≡ true
 
--- what the engine tells on each track of the load is a word
+-- each load is a word
 abbrev pub ShowsWord : Tick → Type 0
 ShowsWord x = (x.entry.shown.load_1 < 2 ^ 16) × (x.entry.shown.load_2 < 2 ^ 16)
 
--- Without such a row and load no excess is ever confirmed, under any fault, where each load is a word. So
--- `CanExceed` is the exact condition.
+-- `CanExceed` is the exact condition: where it fails, no excess is ever confirmed, under any fault.
 abbrev pub NeedsCanExceed : Type 0
 NeedsCanExceed =
     (s : Setting) → IsAccepted s.cal → (h : List Tick) → AreProper s h → All ShowsWord h →
@@ -42,7 +38,7 @@ NeedsCanExceed =
 
 -- ---- the history ----
 
--- what comes in at a tick of the history: the engine gives this torque, and shows this load as both its loads
+-- both loads are `load`
 abbrev pub giving : DriveRow → (load torque : ℕ) → Entry
 giving drive load torque = record {
   drive = drive;
@@ -50,7 +46,7 @@ giving drive load torque = record {
   shown = record { position = 0; load_1 = load; load_2 = load; torque = torque };
 }
 
--- a quiet tick, at which there is no torque; and a tick of excess, with all the torque of the load
+-- a quiet tick is without torque; a tick of excess has all the torque of its load
 abbrev pub quiet : Effects → DriveRow → Tick
 quiet x drive = record { effects = x; entry = giving drive 0 0 }
 
@@ -58,23 +54,23 @@ abbrev pub exceeding : CalibrationParts → DriveRow → (load : ℕ) → Tick
 exceeding cal drive load =
     record { effects = no_effects; entry = giving drive load (estimate cal.rules.kt load) }
 
--- the number of the last tick of excess: it comes right after a send tick, whose answer is still good, and
--- late enough that all ticks of excess have room before it
+-- The last tick of excess comes right after a send tick whose answer is still good, and late enough to leave
+-- room for all ticks of excess before it.
 unfoldable pub last_excess : CalibrationParts → ℕ
 last_excess cal = periods_to_confirm cal.rules.torque cal.times * cal.times.period + cal.times.send + 1
 
--- ticks at which nothing is out of order, newest first: of excess where the bit of a tick says so, else quiet
+-- newest first, with nothing out of order: excess where a bit is true, else quiet
 abbrev pub by_bits : CalibrationParts → DriveRow → (load : ℕ) → List Bool → List Tick
 by_bits cal drive load bits =
     map (λ bad. if bad then exceeding cal drive load else quiet no_effects drive) bits
 
--- the ticks up to the last of excess: quiet ones, and then as many of excess as confirm it
+-- newest first: quiet ticks, and then D of excess, which confirm it
 abbrev pub until_confirmed : CalibrationParts → DriveRow → (load : ℕ) → List Tick
 until_confirmed cal drive load =
     by_bits cal drive load (replicate (feeds_to_confirm cal.rules.torque) true
     ++ replicate (last_excess cal + 1 - feeds_to_confirm cal.rules.torque) false)
 
--- a setting in which from a tick on path 1 is held closed, whatever react orders; level 1 has an empty image
+-- path 1 is stuck closed from tick `onset` on, and level 1 has no code
 abbrev pub closed_from : (onset : ℕ) → CalibrationParts → Setting
 closed_from onset cal = record {
   cal = cal;
@@ -82,23 +78,21 @@ closed_from onset cal = record {
   fault = Some (record { onset = onset; class = Path1Closed });
 }
 
--- the setting: it is so from the tick after that one on
+-- from the tick after the last excess on
 abbrev pub closed_setting : CalibrationParts → Setting
 closed_setting cal = closed_from (last_excess cal + 1) cal
 
--- a tick after that one: it is quiet, and path 1 is held closed
 abbrev pub quiet_after : DriveRow → Tick
 quiet_after drive = quiet (effects_of Path1Closed 0) drive
 
 -- ---- the laws ----
 
--- no drive row resets the unit: so a history of such ticks is one drive span of a run
+-- the unit isn't reset, so that a history of such ticks is one drive span
 abbrev pub GoesOn : Tick → Type 0
 GoesOn x = x.entry.drive.reset ≡ false
 
--- The tick x comes n ticks after the last of h, at which the true excess is first confirmed; `more` are the
--- ticks between. All of them are ticks of one drive span under the setting's fault, in which level 1 has no
--- slice, and the engine keeps its laws and tells loads that are words; and the stages are on at x.
+-- The true excess is first confirmed at the last tick of h, and the stages are still on at x, n ticks later;
+-- `more` are the ticks between. All are ticks of one drive span under the setting's fault.
 pub record IsStillOn (s : Setting) (h more : List Tick) (x : Tick) (n : ℕ) : Type 0 where
   pub follows : Follows s.fault 0 (x ∷ more ++ h)
   pub proper : AreProper s (x ∷ more ++ h)
@@ -108,7 +102,7 @@ pub record IsStillOn (s : Setting) (h more : List Tick) (x : Tick) (n : ℕ) : T
   pub comes : length more + 1 ≡ n
   pub on : is_on_after s (more ++ h) x ≡ true
 
--- in this history the stages are still on R - 1 ticks after the excess is confirmed
+-- C64: n is R - 1
 abbrev pub StaysOnSoLong : Type 0
 StaysOnSoLong =
     (cal : CalibrationParts) → IsAccepted cal → (can : CanExceed cal) →
@@ -117,7 +111,7 @@ StaysOnSoLong =
     (replicate (reaction_of cal.times - 2) (quiet_after can.drive)) (quiet_after can.drive)
     (reaction_of cal.times - 1)
 
--- so any number that serves in the reaction theorem is R or more
+-- claim 6
 abbrev pub ReactionIsLeast : Type 0
 ReactionIsLeast =
     (cal : CalibrationParts) → IsAccepted cal → CanExceed cal → (n : ℕ) →

@@ -1,5 +1,5 @@
--- What `table` tells of a run keeps the limits of its calibration, as `limits` tells them: the longest
--- reaction R, the longest stretch of excess D - 1 + R, and its peak.
+-- Claims 8 and 47: what `table` tells of a run keeps the reaction, the stretch and the peak that `limits`
+-- tells.
 use Rattle.std.specs.Prelude.{◌≡◌, ℕ, ◌≤◌, true, Option}
 use Rattle.eg_answer.specs.Times.{reaction_of}
 use Rattle.eg_values.specs.Excess.{ticks_to_confirm, longest_stretch, greatest_excess}
@@ -18,26 +18,22 @@ use Rattle.eg_model.specs.Bench.{Run}
 use Rattle.eg_model.specs.Rows.{record_rows}
 use Rattle.eg_model.specs.Records.{IsRun}
 
--- by this fault, or without one, the reaction is at once whenever the excess is confirmed
 abbrev pub IsAlwaysAtOnce : Option Fault → Type 0
 IsAlwaysAtOnce fault = (tick : ℕ) → is_at_once fault tick ≡ true
 
--- what is told of a run in this setting keeps the limits of its calibration
+-- what `table` tells of a run in this setting
 pub record KeepsLimits (s : Setting) (facts : Facts) (reactions : Reactions) : Type 0 where
-  -- With no fault or a listed one: its longest reaction takes R ticks at most; in no span has a stretch of
-  -- excess more than D - 1 + R ticks, where D ticks confirm it; nor more than D where the reaction is always
-  -- at once, as without a fault.
+  -- C62, C65
   pub reaction : IsListed s.fault → IsInTime (reaction_of s.cal.times) reactions
   pub stretch : IsListed s.fault → facts.stretch ≤ longest_stretch s.cal
   pub at_once : IsListed s.fault → IsAlwaysAtOnce s.fault → facts.stretch ≤ ticks_to_confirm s.cal
-  -- The first two hold as well where level 2, once it has missed a tick, misses at least one of any `period`
-  -- ticks in a row.
+  -- C102
   pub misses : KeepsMissing s.fault s.cal.times.period →
       IsInTime (reaction_of s.cal.times) reactions × (facts.stretch ≤ longest_stretch s.cal)
-  -- and under each fault no torque lies further above what is permitted and the threshold than it can
+  -- C77, under each fault
   pub peak : facts.peak ≤ greatest_excess s.cal
 
--- the law: so it is of the record of each run without a fault or under a valid one
+-- claims 47 and 93
 abbrev pub RecordsKeepLimits : {E : Type 0} → BenchEngine E → Type 0
 RecordsKeepLimits b =
     (r : Run) → IsRun r → IsNoneOrValid r.setting.fault → KeepsLimits r.setting

@@ -1,5 +1,4 @@
--- Outside the headline. How long an excess may last under lapses, by every calibration that bounds it:
--- without a ramp, with one that never comes down, or where one wrong verdict confirms.
+-- Outside the headline. C103: how long an excess may last under lapses.
 use Rattle.std.specs.Prelude.{ℕ, ◌+◌, ◌*◌, ◌≤◌, List, length}
 use Rattle.eg_values.specs.Calibration.{CalibrationParts, IsAccepted}
 use Rattle.eg_values.specs.Excess.{ticks_to_confirm, BoundsMissed, longest_missed}
@@ -16,13 +15,13 @@ use Rattle.eg_model.specs.Rows.{rows_of, record_rows}
 use Rattle.eg_model.specs.Records.{IsRun, ExceedLast, ExcessIsBelow}
 use Rattle.eg_laws.specs.Availability.{missed_ticks}
 
--- The law: no stretch of true excess has more ticks than `longest_missed` says.
+-- C103
 abbrev pub MissedStretchesEnd : Type 0
 MissedStretchesEnd =
     (cal : CalibrationParts) → IsAccepted cal → BoundsMissed cal →
     StretchesStayBelow cal (longest_missed cal + 1)
 
--- and so it is in each drive span of a record
+-- claim 96
 abbrev pub RecordsEndMissedStretches : {E : Type 0} → BenchEngine E → Type 0
 RecordsEndMissedStretches b =
     (r : Run) → IsRun r → IsNoneOrValid r.setting.fault → IsLapse r.setting.fault →
@@ -30,10 +29,8 @@ RecordsEndMissedStretches b =
     EachDriveSpan (ExcessIsBelow r.setting.cal.rules.threshold (longest_missed r.setting.cal + 1))
     (record_rows b r)
 
--- Under any ramp, whatever the answers: each tick that level 2 misses leaves its permitted torque at most
--- `fall` further above the true one. So where it misses at most `missed` ticks of a span, an excess that is
--- greater by `fall` for each of them lasts at most D ticks in a row and as many more. (Here h is the history
--- up to the end of the stretch, and n the ticks of the stretch.)
+-- C103, with any ramp and any N. h is the history up to the end of the stretch, and n the ticks of the
+-- stretch.
 abbrev pub GreatExcessEnds : Type 0
 GreatExcessEnds =
     (s : Setting) → IsAccepted s.cal → IsLapse s.fault → (start : ℕ) (h : List Tick) →
@@ -42,14 +39,13 @@ GreatExcessEnds =
     ExceedLast (s.cal.rules.threshold + missed * s.cal.rules.fall) n (rows_of (moments_of s h)) →
     n ≤ ticks_to_confirm s.cal + missed
 
--- this is so of each stretch of these rows, if level 2 misses so few of them
 abbrev pub GreatExcessIsShort : Setting → (missed start : ℕ) → List Row → Type 0
 GreatExcessIsShort s missed start rows =
     missed_ticks s.fault start (length rows) ≤ missed →
     ExcessIsBelow (s.cal.rules.threshold + missed * s.cal.rules.fall) (ticks_to_confirm s.cal + missed + 1)
     start rows
 
--- and so it is in each drive span of a record
+-- claim 100
 abbrev pub RecordsEndGreatExcess : {E : Type 0} → BenchEngine E → Type 0
 RecordsEndGreatExcess b =
     (r : Run) → IsRun r → IsNoneOrValid r.setting.fault → IsLapse r.setting.fault → (missed : ℕ) →

@@ -1,6 +1,5 @@
--- A level 2 that never runs again, or that keeps missing ticks, is cut within R ticks, whatever level 1 does:
--- where it misses at least one of any `period` ticks in a row no answer is good from the first missed tick of
--- a drive span on, since a good one takes a run at each tick since the one before. Rows stand newest first.
+-- C102: if level 2 keeps missing ticks, or never runs again, the stages are off R ticks later, whatever level
+-- 1 does. Rows stand newest first.
 use Rattle.std.specs.Prelude.{◌≡◌, ℕ, ◌+◌, ◌≤◌, ◌<◌, true, false, max, List, [], ◌∷◌, ◌++◌, All, length, Option, Some}
 use Rattle.eg_answer.specs.Times.{feeds_to_confirm, reaction_of}
 use Rattle.eg_values.specs.Excess.{longest_stretch}
@@ -22,54 +21,50 @@ use Rattle.eg_laws.specs.Stretches.{RowsEndStretches}
 
 -- ---- which lapses ----
 
--- level 2 misses one of the `count` ticks that begin with this one
+-- one of the `count` ticks from `tick` on is missed
 pub record MissesOneOf (fault : Option Fault) (count tick : ℕ) : Type 0 where
   pub missed : ℕ
   pub from : tick ≤ missed
   pub before : missed < tick + count
   pub misses : misses_tick fault missed ≡ true
 
--- the fault is a lapse; once level 2 has missed a tick it misses at least one of any `count` ticks in a row
+-- C102: once a tick is missed, one of any `count` ticks in a row is
 pub record KeepsMissing (fault : Option Fault) (count : ℕ) : Type 0 where
   pub lapse : IsLapse fault
   pub again : (first tick : ℕ) → misses_tick fault first ≡ true → first ≤ tick → MissesOneOf fault count tick
 
--- so it is by each lapse whose count begins anew every `count` ticks, or sooner
+-- C102: so it is by each lapse with `every` from 1 to `count`
 abbrev pub LapsesKeepMissing : Type 0
 LapsesKeepMissing =
     (onset : ℕ) (after : List ℕ) (every count : ℕ) → 1 ≤ every → every ≤ count →
     KeepsMissing (Some (record { onset = onset; class = Lapse after every })) count
 
--- the lapse by which level 2 never runs again, from the onset on
 abbrev pub never_again : (onset : ℕ) → Fault
 never_again onset = record { onset = onset; class = Lapse (0 ∷ []) 1 }
 
--- it misses each tick from there on
 abbrev pub NeverRunsAgain : Type 0
 NeverRunsAgain = (onset tick : ℕ) → onset ≤ tick → misses_tick (Some (never_again onset)) tick ≡ true
 
 -- ---- the rows of a drive span that begins at tick `start`, or of its part up to any tick ----
 
--- from `bound` ticks after the onset, or after the span's begin if that is later, the stages are off
+-- the stages are off from `bound` ticks after the onset, or after the span's begin if that is later
 abbrev pub CutForGood : (onset bound start : ℕ) → List Row → Type 0
 CutForGood onset bound start rows = All (λ row. max onset start + bound ≤ row.tick → row.on ≡ false) rows
 
--- What holds where level 2 keeps missing ticks; R is the worst-case reaction.
+-- C102
 pub record MissesAreCut (s : Setting) (start : ℕ) (rows : List Row) : Type 0 where
-  -- As with a listed fault the stages are off from R ticks after a confirmed true excess, and each stretch of
-  -- true excess has at most D - 1 + R rows.
+  -- C62 and C65 as under a listed fault
   pub reacts : ReactWithin (reaction_of s.cal.times) s.cal.rules.torque s.cal.rules.threshold start rows
   pub stretches : RowsEndStretches s.cal.rules.threshold (longest_stretch s.cal) start rows
-  -- Whatever the torque, they are off from R ticks after each tick of the span that level 2 misses.
+  -- whatever the torque
   pub off : (tick : ℕ) → start ≤ tick → misses_tick s.fault tick ≡ true →
       All (λ row. tick + reaction_of s.cal.times ≤ row.tick → row.on ≡ false) rows
-  -- And a watch that cuts is found before these ticks have passed. (`before` are the rows up to the last of
-  -- them. Where the span ends sooner nothing is said.)
+  -- A cutting watch has found something by then. `before` are the rows up to the last of the R ticks; nothing
+  -- is said if the span ends sooner.
   pub found : (tick : ℕ) → start ≤ tick → misses_tick s.fault tick ≡ true → (later before : List Row) →
       rows ≡ later ++ before → start + length before ≡ tick + reaction_of s.cal.times → Finds cutting before
 
--- Of a drive span: path 2 doesn't conduct from R ticks on after a tick of it that level 2 misses. (So
--- `answers` is found by then, and the stages are off.)
+-- C102, if N is 1. So `answers` has found something by then, and the stages are off.
 abbrev pub MissesOpenPath2 : Setting → (start : ℕ) → List Row → Type 0
 MissesOpenPath2 s start rows =
     (tick : ℕ) → start ≤ tick → misses_tick s.fault tick ≡ true →
@@ -77,20 +72,20 @@ MissesOpenPath2 s start rows =
 
 -- ---- of every record ----
 
--- in each drive span a level 2 that keeps missing one of any `period` ticks in a row is cut within R
+-- claims 93 and 94
 abbrev pub RecordsCutMisses : {E : Type 0} → BenchEngine E → Type 0
 RecordsCutMisses b =
     (r : Run) → IsRun r → IsNoneOrValid r.setting.fault →
     KeepsMissing r.setting.fault r.setting.cal.times.period →
     EachDriveSpan (MissesAreCut r.setting) (record_rows b r)
 
--- and one that never runs again is cut within R of the onset
+-- claim 95
 abbrev pub RecordsCutForGood : {E : Type 0} → BenchEngine E → Type 0
 RecordsCutForGood b =
     (r : Run) → IsRun r → (onset : ℕ) → r.setting.fault ≡ Some (never_again onset) →
     EachDriveSpan (CutForGood onset (reaction_of r.setting.cal.times)) (record_rows b r)
 
--- and where one wrong verdict confirms, path 2 is opened after each missed tick of a lapse
+-- claim 97
 abbrev pub RecordsOpenAtMisses : {E : Type 0} → BenchEngine E → Type 0
 RecordsOpenAtMisses b =
     (r : Run) → IsRun r → IsLapse r.setting.fault → feeds_to_confirm r.setting.cal.times.weights ≡ 1 →

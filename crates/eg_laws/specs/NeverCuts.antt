@@ -1,6 +1,4 @@
--- Outside the headline. Throttles that never cut: without a fault no drive and no image whose throttle stays
--- at an angle or below is ever cut, where the greatest load that such a throttle can bring is permitted
--- everywhere.
+-- Outside the headline. C101: throttles that never cut.
 use Rattle.std.specs.Prelude.{◌≡◌, ℕ, zero, suc, ◌+◌, ◌≤◌, true, min, max, List, All, None}
 use Rattle.eg_num.specs.Arithmetic.{estimate}
 use Rattle.eg_num.specs.Interpolation.{curve_at}
@@ -16,39 +14,32 @@ use Rattle.eg_model.specs.Bench.{Run}
 use Rattle.eg_model.specs.Rows.{record_rows}
 use Rattle.eg_model.specs.Records.{IsRun}
 
--- the greatest charge of the plate angles up to x, and likewise the greatest smoke limit of the boosts up
--- to x
+-- the greatest charge up to plate x, or the greatest smoke limit up to boost x
 unfoldable pub charge_up_to : PlantParts → ℕ → ℕ
 charge_up_to plant zero = curve_at plant.charge 0
 charge_up_to plant (suc x) = max (charge_up_to plant x) (curve_at plant.charge (suc x))
 
--- The greatest load that an engine of this kind can come to while its throttle stays at x or below: the
--- gasoline engine's charge is that of its plate, and of the diesel engine no more is injected than the rack
--- meters.
+-- C101
 unfoldable pub load_up_to : EngineKind → PlantParts → ℕ → ℕ
 load_up_to kind.Gasoline plant x = charge_up_to plant x
 load_up_to kind.Diesel plant x = min x (charge_up_to plant x)
 
--- the torque estimate of that load is at most the least torque that the permit table permits, and the
--- threshold
+-- C101: its estimate is no excess over the least permitted torque
 abbrev pub IsPermittedUpTo : EngineKind → CalibrationParts → ℕ → Type 0
 IsPermittedUpTo engine cal x =
     estimate cal.rules.kt (load_up_to engine cal.plant x)
     ≤ least_permitted cal.rules.permit + cal.rules.threshold
 
--- the stages are on at each of these rows
 abbrev pub AreOn : List Row → Type 0
 AreOn rows = All (λ row. row.on ≡ true) rows
 
--- no drive and no image whose throttle stays at x or below is ever cut: without a fault the stages are on at
--- each row of each drive span
 abbrev pub NeverCuts : {E : Type 0} → BenchEngine E → CalibrationParts → ℕ → Type 0
 NeverCuts b cal x =
     (r : Run) → IsRun r → r.setting.cal ≡ cal → r.setting.fault ≡ None →
     All (λ row. row.throttle ≤ x) (record_rows b r) →
     EachDriveSpan (λ start span. AreOn span) (record_rows b r)
 
--- the law
+-- claim 90
 abbrev pub PermittedThrottlesNeverCut : EngineKind → Type 0
 PermittedThrottlesNeverCut engine =
     (cal : CalibrationParts) → IsAccepted cal → (x : ℕ) → IsPermittedUpTo engine cal x →

@@ -1,6 +1,5 @@
--- Outside the headline. When the watches of the four pairs are found, in drive spans under a fault that
--- leaves level 2's modules alone: while no trip has come, exactly at the row at which the rows whose pair
--- disagrees first reach the limit of the pairs' weights. Rows stand newest first.
+-- Outside the headline. C99: when the watches of the four pairs find, under a fault that leaves level 2's
+-- modules alone. Rows stand newest first.
 use Rattle.std.specs.Prelude.{◌≡◌, ◌⊎◌, ℕ, ◌≤◌, Bool, true, false, not, ◌&&◌, List, [], ◌∷◌, ◌++◌, All, map, length, slice_index, Option, IfSome}
 use Rattle.std.specs.List.{list_any}
 use Rattle.eg_num.specs.Windows.{is_first}
@@ -21,8 +20,7 @@ use Rattle.eg_model.specs.Rows.{record_rows}
 use Rattle.eg_model.specs.Records.{IsRun}
 use Rattle.eg_laws.specs.Availability.{has_tripped}
 
--- no fault, or one of a class under which all modules of level 2 run at each tick as without a fault: any but
--- skip, disturb, flip, halt and lapse
+-- neither `skip`, `disturb`, `flip`, `halt` nor `lapse`
 abbrev pub SparesModules : Option Fault → Type 0
 SparesModules fault = IfSome fault (λ f. may_change_levels f.class ≡ false)
 
@@ -34,14 +32,13 @@ pub data Pair : Type 0 where
   Load : Pair
   Speed : Pair
 
--- whether the watch of a pair is found, where these are found
 unfoldable pub finds_pair : Pair → Watches → Bool
 finds_pair Pedal found = found.pedal
 finds_pair Plate found = found.plate
 finds_pair Load found = found.load
 finds_pair Speed found = found.speed
 
--- the two values of a pair differ by more than its tolerance, by what its tracks read
+-- C13
 unfoldable pub pair_disagrees : Pair → (tolerances : List ℕ) → Readings → Bool
 pair_disagrees Pedal tolerances r = disagrees (falling_pair r.pedal) (slice_index tolerances 0)
 pair_disagrees Plate tolerances r = disagrees (falling_pair r.plate) (slice_index tolerances 1)
@@ -50,8 +47,8 @@ pair_disagrees Speed tolerances r = disagrees (rising_pair r.speed) (slice_index
 
 -- ---- by a row ----
 
--- What came in at a row, as far as its readings go. A row knows one load, since an engine of the bench shows
--- it to both tracks.
+-- What came in at a row, as far as its readings need it. A row has one load, since an engine of the bench
+-- shows it to both tracks.
 abbrev pub entry_of : Row → Entry
 entry_of row = record {
   drive = row.drive;
@@ -59,30 +56,26 @@ entry_of row = record {
   shown = record { position = row.plate; load_1 = row.charge; load_2 = row.charge; torque = row.torque };
 }
 
--- the readings at a row: what the fault makes of what is true, gated where the brake is taken as pressed
+-- what the fault leaves of the true readings, gated if the brake is taken as pressed
 unfoldable pub read_at : Setting → Row → Readings
 read_at s row = readings_at s.cal (effects s.fault row.tick) (entry_of row)
 
--- the pair disagrees at a row
 unfoldable pub disagrees_at : Pair → Setting → Row → Bool
 disagrees_at pair s row = pair_disagrees pair s.cal.rules.tolerances (read_at s row)
 
 -- ---- the rows of a drive span that begins at tick `start`, or of its part up to any tick ----
 
--- the watch of each pair is found at a row exactly if no trip came at an earlier one, and the rows up to it
--- at which the pair disagrees reach the limit there for the first time
+-- C99
 abbrev pub FindsPairs : Setting → (start : ℕ) → List Row → Type 0
 FindsPairs s start rows =
     (pair : Pair) (later before : List Row) (row : Row) → rows ≡ later ++ row ∷ before →
     finds_pair pair row.found
     ≡ (not (has_tripped before) && is_first s.cal.rules.pair (map (disagrees_at pair s) (row ∷ before)))
 
--- such a watch was found at one of these rows
 unfoldable pub has_found : Pair → List Row → Bool
 has_found pair rows = list_any (λ row. finds_pair pair row.found) rows
 
--- Where a pair disagrees at D rows in a row, D being as many as confirm, its watch was found by the last of
--- them, or a trip came.
+-- C99: a pair that disagrees at as many rows in a row as confirm
 abbrev pub FindsDisagreement : Setting → (start : ℕ) → List Row → Type 0
 FindsDisagreement s start rows =
     (pair : Pair) (later stretch before : List Row) → rows ≡ later ++ (stretch ++ before) →

@@ -1,6 +1,5 @@
--- Outside the headline. Whether each shut-off path conducts, by the rows of a record: in a drive span as its
--- latch and what a fault does at the tick say; and in a test span, before the onset of a fault, both up to
--- the row that reads them back, and none at that row. Rows stand newest first.
+-- Outside the headline. C44 and C41: when each path conducts, by the rows of a drive span and of a test span.
+-- Rows stand newest first.
 use Rattle.std.specs.Prelude.{◌≡◌, ℕ, Bool, true, false, ◌&&◌, ◌||◌, nat_lt, List, [], ◌∷◌, ◌++◌, length, Option}
 use Rattle.std.specs.List.{list_any}
 use Rattle.eg_answer.specs.Times.{test_ticks_of}
@@ -18,24 +17,23 @@ use Rattle.eg_model.specs.Records.{IsRun, is_before_onset}
 
 -- ---- the latches, by the rows of a drive span ----
 
--- a watch that trips is found at this row
+-- a watch that trips finds something at this row
 unfoldable pub trips : Row → Bool
 trips row = some_trips row.found.mirror row.found.plate row.found.load row.found.speed row.found.torque
 
--- the latch of path 1 is open: at one of these rows react ran, and such a watch had been found by then
+-- C44: react ran at one of these rows, and a trip had come by then
 unfoldable pub opened_1 : Option Fault → List Row → Bool
 opened_1 fault [] = false
 opened_1 fault (row ∷ before) =
     ((effects fault row.tick).ran REACT && list_any trips (row ∷ before)) || opened_1 fault before
 
--- the latch of path 2 is open: at one of them wrong answers were found, or a wild monitoring module ordered
--- it
+-- C44
 unfoldable pub opened_2 : Option Fault → List Row → Bool
 opened_2 fault rows = list_any (λ row. row.found.answers || (effects fault row.tick).opens) rows
 
 -- ---- the rows of a drive span that begins at tick `start`, or of its part up to any tick ----
 
--- each path conducts at this row as its latch and what is out of order at the tick say
+-- C44
 pub record FollowsLatches (fault : Option Fault) (row : Row) (before : List Row) : Type 0 where
   pub path1 : row.path1 ≡ (effects fault row.tick).conducts PATH_1 (opened_1 fault before)
   pub path2 : row.path2 ≡ (effects fault row.tick).conducts PATH_2 (opened_2 fault before)
@@ -47,13 +45,13 @@ RowsFollowLatches fault start rows =
 
 -- ---- and of a test span ----
 
--- both paths conduct at this row, `before` being the rows of its span before it, exactly if it comes before
--- the one that reads them back, which has the number `read_back` in the span
+-- Both paths conduct before the row of number `read_back` in the span, and not at it. `before` are the rows
+-- of the span before this one.
 pub record IsTested (read_back : ℕ) (row : Row) (before : List Row) : Type 0 where
   pub path1 : row.path1 ≡ nat_lt (length before) read_back
   pub path2 : row.path2 ≡ nat_lt (length before) read_back
 
--- before the onset of a fault, while the test is running
+-- C41: before the onset of a fault, while the test is running
 abbrev pub RowsAreTested : Option Fault → (read_back start : ℕ) → List Row → Type 0
 RowsAreTested fault read_back start rows =
     (later : List Row) (row : Row) (before : List Row) → rows ≡ later ++ row ∷ before →

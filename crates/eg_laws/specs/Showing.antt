@@ -1,6 +1,5 @@
--- The rows of a record are numbered in order, have the drive rows of the drive and the torque that these
--- permit, and show the engine as it steps from row to row, and what the fault does to the paths. Rows stand
--- newest first.
+-- C55: the rows of a record show the run: numbers, drive rows, permitted torque, the engine's steps, and what
+-- the fault does to the paths. Rows stand newest first.
 use Rattle.std.specs.Prelude.{◌≡◌, ℕ, true, false, List, [], ◌∷◌, All, map, reverse, if◌then◌else◌}
 use Rattle.eg_num.specs.Drive.{DriveRow}
 use Rattle.eg_torque.specs.Ramp.{ramped}
@@ -17,14 +16,13 @@ use Rattle.eg_model.specs.Bench.{Run}
 use Rattle.eg_model.specs.Rows.{record_rows}
 use Rattle.eg_model.specs.Records.{IsRun}
 
--- the two outputs of level 1 that the engine uses at a row: those of the row before, and 0 at the first row
--- of a span
+-- level 1's outputs as the row before left them; 0 and 0 at the first row of a span
 unfoldable pub commands_at : Row → List Row → ℕ × ℕ
 commands_at row [] = (0, 0)
 commands_at row (last ∷ before) = if row.fresh then (0, 0) else (last.throttle, last.ignition)
 
--- The engine after these rows: from its rest on it makes one step a row, by these outputs, by whether the
--- stages are on at the row, and with the plate held that the fault holds there.
+-- The engine after these rows, from its rest on. It steps by these outputs, by whether the stages are on, and
+-- with the plate where the fault holds it.
 unfoldable pub engine_by : {E : Type 0} → BenchEngine E → Setting → List Row → E
 engine_by b s [] = b.rest s.cal.plant
 engine_by b s (row ∷ before) =
@@ -32,35 +30,29 @@ engine_by b s (row ∷ before) =
     b.step s.cal.plant (engine_by b s before) commands.0 commands.1 row.on
     (effects s.fault row.tick).held_plate
 
--- the permitted torque before a row in its span: that of the row before, and 0 at the first row of a span
+-- 0 at the first row of a span
 unfoldable pub limit_before : Row → List Row → ℕ
 limit_before row [] = 0
 limit_before row (last ∷ before) = if row.fresh then 0 else last.limit
 
--- the limit of each of these rows is what the driver demands by its drive row, or down the ramp from the
--- row before in its span
+-- C95
 unfoldable pub ArePermitted : CalibrationParts → List Row → Type 0
 ArePermitted cal [] = Unit {0}
 ArePermitted cal (row ∷ before) =
     (row.limit ≡ ramped cal.rules.fall (limit_before row before) (demand_at cal row.drive))
     × ArePermitted cal before
 
--- a row has what an engine shows
 pub record HasShown (row : Row) (shown : Shown) : Type 0 where
   pub plate : row.plate ≡ shown.position
   pub charge : row.charge ≡ shown.load_1
   pub torque : row.torque ≡ shown.torque
 
--- each of these rows has what the engine shows after it
 abbrev pub ShowEngine : {E : Type 0} → BenchEngine E → Setting → List Row → Type 0
 ShowEngine b s [] = Unit {0}
 ShowEngine b s (row ∷ before) = HasShown row (b.shows (engine_by b s (row ∷ before))) × ShowEngine b s before
 
--- These rows show a run of this drive in this setting: the tick of each row is the count of the rows
--- before it; its drive row is that of the drive; its limit is the permitted torque, by the drive rows of
--- its span; it has what the engine shows; and where the stages are off there is no torque. A path that the
--- fault lets conduct with its latch open conducts, and one that the fault doesn't let conduct with its
--- latch closed doesn't.
+-- C55. A path that the fault lets conduct with its latch open conducts; a path that the fault doesn't let
+-- conduct with its latch closed doesn't.
 pub record ShowsRun {E : Type 0} (b : BenchEngine E) (s : Setting) (drive : List DriveRow) (rows : List Row)
     : Type 0 where
   pub numbered : AreRows rows
@@ -73,7 +65,7 @@ pub record ShowsRun {E : Type 0} (b : BenchEngine E) (s : Setting) (drive : List
   pub open1 : All (λ row. (effects s.fault row.tick).conducts PATH_1 false ≡ false → row.path1 ≡ false) rows
   pub open2 : All (λ row. (effects s.fault row.tick).conducts PATH_2 false ≡ false → row.path2 ≡ false) rows
 
--- with no fault or a valid one: the record of each run shows it
+-- of the headline (claim 1)
 abbrev pub RecordsShowRuns : {E : Type 0} → BenchEngine E → Type 0
 RecordsShowRuns b =
     (r : Run) → IsRun r → IsNoneOrValid r.setting.fault → ShowsRun b r.setting r.drive (record_rows b r)

@@ -1,6 +1,5 @@
--- How long a true excess lasts: with no fault or a listed one each stretch of ticks in a row with excess
--- has D - 1 + R ticks at most, where D feeds confirm it; and D ticks where the reaction is at once. No
--- smaller numbers serve where an excess can be confirmed at all. In a stretch the newest stands first.
+-- C65: how long a true excess lasts under at most one listed fault, and that no smaller numbers serve. In a
+-- stretch the newest tick stands first.
 use Rattle.std.specs.Prelude.{◌≡◌, ℕ, ◌+◌, ◌-◌, ◌≤◌, Bool, true, List, [], ◌++◌, All, map, length, replicate, Option, None}
 use Rattle.std.specs.Option.{IfSome}
 use Rattle.eg_num.specs.Arithmetic.{estimate}
@@ -26,33 +25,31 @@ use Rattle.eg_model.specs.Records.{IsRun}
 use Rattle.eg_laws.specs.LeastReaction.{CanExceed, giving, until_confirmed, closed_setting}
 use Rattle.eg_laws.specs.LeastLapse.{Lasts}
 
--- These ticks, after the ticks `before`, are a stretch with true excess at each, in a history that begins
--- at tick `start` of a run.
+-- There is true excess at each tick of `stretch`, which comes after the ticks `before`. The history begins at
+-- tick `start` of a run.
 pub record IsStretch (s : Setting) (start : ℕ) (stretch before : List Tick) : Type 0 where
   pub follows : Follows s.fault start (stretch ++ before)
   pub proper : AreProper s (stretch ++ before)
   pub exceeds : Exceeds s (length stretch) (stretch ++ before)
 
--- with no fault or a listed one each stretch has `longest` ticks at most
 abbrev pub StretchesEndBy : CalibrationParts → (longest : ℕ) → Type 0
 StretchesEndBy cal longest =
     (s : Setting) → s.cal ≡ cal → IsListed s.fault → (start : ℕ) (stretch before : List Tick) →
     IsStretch s start stretch before → length stretch ≤ longest
 
--- Where the true excess is confirmed, the reaction is at once from the tick after the first by which it is.
--- (`excesses` has a bit for each tick of a drive span that begins at tick `start`.)
+-- C65: from the tick after the confirmed excess on. `excesses` has a bit for each tick of a drive span that
+-- begins at tick `start`.
 abbrev pub IsAtOnceWhenConfirmed : Option Fault → WeightParts → (start : ℕ) → (excesses : List Bool) → Type 0
 IsAtOnceWhenConfirmed fault weights start excesses =
     IfSome (first_index weights excesses) (λ c. is_at_once fault (start + c + 1) ≡ true)
 
--- so it is where the reaction is at once when the excess is confirmed
 abbrev pub StretchesEndAtOnceBy : CalibrationParts → (longest : ℕ) → Type 0
 StretchesEndAtOnceBy cal longest =
     (s : Setting) → s.cal ≡ cal → IsListed s.fault → (start : ℕ) (stretch before : List Tick) →
     IsAtOnceWhenConfirmed s.fault cal.rules.torque start (true_excesses s (stretch ++ before)) →
     IsStretch s start stretch before → length stretch ≤ longest
 
--- The two laws. (Without a fault the reaction is always at once.)
+-- C65. Without a fault the reaction is always at once.
 abbrev pub StretchesEnd : Type 0
 StretchesEnd = (cal : CalibrationParts) → IsAccepted cal → StretchesEndBy cal (longest_stretch cal)
 
@@ -62,13 +59,13 @@ StretchesEndAtOnce =
 
 -- ---- the histories that show that no smaller numbers serve ----
 
--- a tick after the excess is confirmed, at which path 1 is held closed: the excess goes on
+-- path 1 is stuck closed, and the excess goes on
 abbrev pub exceeding_after : CalibrationParts → DriveRow → (load : ℕ) → Tick
 exceeding_after cal drive load =
     record { effects = effects_of Path1Closed 0; entry = giving drive load (estimate cal.rules.kt load) }
 
--- The excess is confirmed, and path 1 is held closed from the next tick on: then it lasts for as many ticks
--- as the first law allows.
+-- C65: the excess is confirmed, path 1 is stuck closed from the next tick on, and the excess lasts D - 1 + R
+-- ticks
 abbrev pub ExcessLasts : Type 0
 ExcessLasts =
     (cal : CalibrationParts) → IsAccepted cal → (can : CanExceed cal) →
@@ -78,7 +75,7 @@ ExcessLasts =
     ++ until_confirmed cal can.drive can.load)
     (longest_stretch cal)
 
--- a setting without a fault, in which the excess lasts the D ticks that confirm it
+-- without a fault the excess lasts the D ticks that confirm it
 abbrev pub faultless_setting : CalibrationParts → Setting
 faultless_setting cal = record { cal = cal; image = []; fault = None }
 
@@ -87,7 +84,7 @@ ExcessLastsUntilConfirmed =
     (cal : CalibrationParts) → IsAccepted cal → (can : CanExceed cal) →
     Lasts (faultless_setting cal) (until_confirmed cal can.drive can.load) (ticks_to_confirm cal)
 
--- So a number that bounds each stretch, in place of that of the first law or of the second, isn't smaller.
+-- claim 43
 abbrev pub StretchIsLeast : Type 0
 StretchIsLeast =
     (cal : CalibrationParts) → IsAccepted cal → CanExceed cal → (longest : ℕ) →
@@ -100,21 +97,18 @@ StretchAtOnceIsLeast =
 
 -- ---- the rows of a drive span that begins at tick `start`, or of its part up to any tick ----
 
--- there is true excess at each of these rows
 abbrev pub AllExcess : (threshold : ℕ) → List Row → Type 0
 AllExcess threshold stretch = All (λ row. true_excess threshold row ≡ true) stretch
 
--- where there is true excess at each of some consecutive rows, these are `longest` rows at most
+-- no stretch of consecutive rows with true excess has more than `longest`
 abbrev pub LastsAtMost : (threshold longest : ℕ) → List Row → Type 0
 LastsAtMost threshold longest rows =
     (later stretch before : List Row) → rows ≡ later ++ (stretch ++ before) → AllExcess threshold stretch →
     length stretch ≤ longest
 
--- so it is in the rows of a drive span
 abbrev pub RowsEndStretches : (threshold longest start : ℕ) → List Row → Type 0
 RowsEndStretches threshold longest start rows = LastsAtMost threshold longest rows
 
--- so it is where the reaction is at once when the excess is confirmed
 abbrev pub RowsEndStretchesAtOnce :
     Option Fault → WeightParts → (threshold longest start : ℕ) → List Row → Type 0
 RowsEndStretchesAtOnce fault weights threshold longest start rows =
@@ -124,14 +118,14 @@ RowsEndStretchesAtOnce fault weights threshold longest start rows =
 
 -- ---- of every record ----
 
--- with no fault or a listed one: in each drive span each stretch has `longest_stretch` rows at most
+-- claim 41
 abbrev pub RecordsEndStretches : {E : Type 0} → BenchEngine E → Type 0
 RecordsEndStretches b =
     (r : Run) → IsRun r → IsListed r.setting.fault →
     EachDriveSpan (RowsEndStretches r.setting.cal.rules.threshold (longest_stretch r.setting.cal))
     (record_rows b r)
 
--- and D rows at most where the reaction is at once when the excess is confirmed
+-- claim 42
 abbrev pub RecordsEndStretchesAtOnce : {E : Type 0} → BenchEngine E → Type 0
 RecordsEndStretchesAtOnce b =
     (r : Run) → IsRun r → IsListed r.setting.fault →

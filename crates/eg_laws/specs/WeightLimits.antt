@@ -1,7 +1,5 @@
--- Outside the headline. Two runs whose calibrations differ in the limit of the torque's weights alone are
--- the same up to the first tick at which either finds the torque; and where they differ in the limit of the
--- pairs' weights alone, up to the first at which either finds a pair. For nothing else reads these limits:
--- level 1 can load no protected word.
+-- Outside the headline. C97: runs that differ in the limit of the torque's or the pairs' weights alone. Level
+-- 1 sees no counter, since it can load no protected word.
 use Rattle.std.specs.Prelude.{◌≡◌, ℕ, false, List, All}
 use Rattle.eg_num.specs.Windows.{WeightParts}
 use Rattle.eg_num.specs.declared.watches.Watches.{Watches}
@@ -11,31 +9,25 @@ use Rattle.eg_model.specs.Engines.{BenchEngine}
 use Rattle.eg_model.specs.Bench.{Run, moments_to}
 use Rattle.eg_model.specs.Records.{rows_to}
 
--- these weights with another limit
 abbrev pub limited : (limit : ℕ) → WeightParts → WeightParts
 limited limit w = record w { limit = limit }
 
--- the same setting with these weights of the pairs and of the torque
 abbrev pub weighing : (pair torque : WeightParts) → Setting → Setting
 weighing pair torque s =
     record s { cal = record s.cal { rules = record s.cal.rules { pair = pair; torque = torque } } }
 
--- the same setting with this limit of the torque's weights, and with this limit of the pairs' weights
 abbrev pub torque_limited : (limit : ℕ) → Setting → Setting
 torque_limited limit s = weighing s.cal.rules.pair (limited limit s.cal.rules.torque) s
 
 abbrev pub pairs_limited : (limit : ℕ) → Setting → Setting
 pairs_limited limit s = weighing (limited limit s.cal.rules.pair) s.cal.rules.torque s
 
--- the same run in another setting
 abbrev pub run_in : Setting → Run → Run
 run_in s r = record r { setting = s }
 
--- the torque is found at none of these rows
 abbrev pub FindNoTorque : List Row → Type 0
 FindNoTorque rows = All (λ row. row.found.torque ≡ false) rows
 
--- none of these watches is that of a pair; and no pair is found at any of these rows
 pub record FindsNoPair (found : Watches) : Type 0 where
   pub pedal : found.pedal ≡ false
   pub plate : found.plate ≡ false
@@ -45,12 +37,12 @@ pub record FindsNoPair (found : Watches) : Type 0 where
 abbrev pub FindNoPair : List Row → Type 0
 FindNoPair rows = All (λ row. FindsNoPair row.found) rows
 
--- what is true of the first n ticks of two runs is the same, and so are their rows
+-- the first n ticks of two runs are the same, and so are their rows
 pub record AreSameTo {E : Type 0} (b : BenchEngine E) (r q : Run) (n : ℕ) : Type 0 where
   pub moments_are : moments_to b q n ≡ moments_to b r n
   pub rows_are : rows_to b q n ≡ rows_to b r n
 
--- the law for the torque: so are those of a run by two limits where neither finds the torque at these ticks
+-- claim 74
 abbrev pub RecordsDisregardTorqueLimit : {E : Type 0} → BenchEngine E → Type 0
 RecordsDisregardTorqueLimit b =
     (r : Run) (limit other n : ℕ) →
@@ -58,7 +50,7 @@ RecordsDisregardTorqueLimit b =
     let second = run_in (torque_limited other r.setting) r in
     FindNoTorque (rows_to b first n) → FindNoTorque (rows_to b second n) → AreSameTo b first second n)
 
--- and the law for the pairs, where neither finds a pair
+-- claim 74
 abbrev pub RecordsDisregardPairLimit : {E : Type 0} → BenchEngine E → Type 0
 RecordsDisregardPairLimit b =
     (r : Run) (limit other n : ℕ) →
