@@ -13,7 +13,7 @@ use Rattle.eg_fault.specs.declared.class.Class.TheVariants.{Lapse}
 use Rattle.eg_model.specs.History.{Setting, Tick}
 use Rattle.eg_model.specs.Premises.{AreProper, Follows}
 use Rattle.eg_model.specs.Lapses.{Exceeds, StretchesStayBelow}
-use Rattle.eg_laws.specs.LeastReaction.{CanExceed, GoesOn, ShowsWord, giving, by_bits}
+use Rattle.eg_laws.specs.LeastReaction.{CanExceed, GoesOn, ShowsWord, giving, by_bits, last_excess}
 
 -- the runs of level 2 that confirm an excess, D of them, fit into one period
 abbrev pub RunsFit : CalibrationParts → Type 0
@@ -42,9 +42,10 @@ NoneStandsSoLong =
 
 -- ---- the history that shows that no smaller number is a bound ----
 
--- level 2 misses every tick from the one on that comes after the send tick of the second period
-unfoldable pub lapse_onset : CalibrationParts → ℕ
-lapse_onset cal = cal.times.period + cal.times.send + 1
+-- level 2 misses every tick from this one on, which comes right after a send tick, late enough that D ticks
+-- have room before it
+abbrev pub lapse_onset : CalibrationParts → ℕ
+lapse_onset cal = last_excess cal
 
 -- the class of that lapse
 abbrev pub missing_all : Class
@@ -80,7 +81,7 @@ pub record Lasts (s : Setting) (h : List Tick) (n : ℕ) : Type 0 where
 -- so the excess lasts one tick less than the bound: D - 1 ticks before the lapse, and R ticks under it
 abbrev pub ExcessLastsSoLong : Type 0
 ExcessLastsSoLong =
-    (cal : CalibrationParts) → IsAccepted cal → RunsFit cal → (can : CanExceed cal) →
+    (cal : CalibrationParts) → IsAccepted cal → (can : CanExceed cal) →
     IsNoneOrValid (lapse_setting cal).fault
     × Lasts (lapse_setting cal)
     (replicate (reaction_of cal.times) (missed_excess cal can.drive can.load)
@@ -90,5 +91,5 @@ ExcessLastsSoLong =
 -- and where an excess can be confirmed at all no smaller number is a bound
 abbrev pub LapseBoundIsLeast : Type 0
 LapseBoundIsLeast =
-    (cal : CalibrationParts) → IsAccepted cal → RunsFit cal → CanExceed cal → (bound : ℕ) →
+    (cal : CalibrationParts) → IsAccepted cal → CanExceed cal → (bound : ℕ) →
     StretchesStayBelow cal bound → least_lapse_bound cal ≤ bound
