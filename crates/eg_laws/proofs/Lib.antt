@@ -21,6 +21,7 @@ pub mod AvailabilityLaws
 pub mod AvailabilityRecords
 pub mod ShortStretches
 pub mod LeastLapseLaw
+pub mod LeastMissedLaw
 pub mod MissedRuns
 pub mod WrongVerdicts
 pub mod OneVerdict

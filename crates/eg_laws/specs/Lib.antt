@@ -4,6 +4,7 @@ pub mod Showing
 pub mod LeastReaction
 pub mod LeastLapse
 pub mod MissedStretch
+pub mod LeastMissed
 pub mod Stretches
 pub mod Limits
 pub mod InWords

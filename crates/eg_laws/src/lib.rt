@@ -14,6 +14,7 @@ mod findings;
 mod in_words;
 mod latent;
 mod least_lapse;
+mod least_missed;
 mod least_reaction;
 mod limits;
 mod missed_stretch;
@@ -44,6 +45,7 @@ pub use latent::{
     small_offsets_stay_hidden, small_scripts_stay_hidden,
 };
 pub use least_lapse::{lapse_bound_is_least, longest_excess_run};
+pub use least_missed::missed_bound_is_least;
 pub use least_reaction::{latest_cut_run, reaction_is_least};
 pub use limits::records_keep_limits;
 pub use missed_stretch::missed_excess_ends;
