@@ -20,5 +20,6 @@ pub mod PairsFound
 pub mod SharpUnder
 pub mod Coverage
 pub mod Latent
+pub mod CloserMisses
 pub mod NeverCuts
 pub mod Examples

@@ -9,6 +9,7 @@
 
 mod availability;
 mod bursts;
+mod closer_misses;
 mod coverage;
 mod findings;
 mod in_words;
@@ -34,6 +35,7 @@ pub use availability::{far_misses_never_cut, records_stay_available};
 pub use bursts::{
     bursts_are_sparse, bursts_last, densest_feeds, records_are_sparse, records_end_bursts,
 };
+pub use closer_misses::closer_misses_cut;
 pub use coverage::{
     closed_paths_are_found, moved_answers_are_cut, spoiled_answers_open_path_2,
     wrong_answers_are_found_exactly, wrong_answers_run,
