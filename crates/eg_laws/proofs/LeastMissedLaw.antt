@@ -1,15 +1,15 @@
 -- Where no wrong verdict is taken beyond those that confirm in a row, the longest stretch under lapses is that of listed
 -- faults, and the history of `LeastLapseLaw` has it.
-use Rattle.std.proofs.Common.{inl, inr, ◌⊎◌, ◌≡◌, ℕ, zero, suc, ◌+◌, ◌-◌, ◌*◌, ◌/◌, ◌≤◌, ◌<◌, refl, sym, ap, ◌∙◌, subst, arith, min}
+use Rattle.std.proofs.Common.{inl, inr, ◌≡◌, ℕ, zero, suc, ◌+◌, ◌-◌, ◌*◌, ◌/◌, ◌≤◌, ◌<◌, refl, sym, ap, ◌∙◌, subst, arith, min}
 use Rattle.std.proofs.Math.Nat.{div-mul-le_self}
 use Rattle.std.proofs.lemmas.Nat.{le-div}
 use Rattle.eg_num.specs.Windows.{WeightParts, AreWeights}
-use Rattle.eg_answer.specs.Times.{feeds_to_confirm, reaction_of, periods_to_confirm, rights_between, most_wrong, further_ticks, longest_missed_of}
+use Rattle.eg_answer.specs.Times.{feeds_to_confirm, reaction_of, rights_between, most_wrong, further_ticks, longest_missed_of}
 use Rattle.eg_values.specs.Calibration.{CalibrationParts, IsAccepted}
 use Rattle.eg_values.specs.Excess.{ticks_to_confirm, longest_stretch, longest_missed}
 use Rattle.eg_values.specs.Reference.{reference_parts}
 use Rattle.eg_laws.specs.LeastReaction.{CanExceed}
-use Rattle.eg_laws.specs.LeastLapse.{least_lapse_bound, lapse_setting, before_lapse, missed_excess, Lasts}
+use Rattle.eg_laws.specs.LeastLapse.{least_lapse_bound, lapse_setting, Lasts}
 use Rattle.eg_laws.specs.LeastMissed.{NoneFurther, MissedIsListed, MissedExcessLasts, MissedBoundIsLeast}
 use Rattle.eg_laws.proofs.ExcessTicks.{many_positive}
 use Rattle.eg_laws.proofs.LeastLapseLaw.{excess_lasts_so_long, lapse_bound_is_least}

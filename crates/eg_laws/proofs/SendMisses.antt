@@ -1,6 +1,6 @@
 -- A lapse that leaves out the send tick of one in so many periods: the verdict of such a period and that of the next one
 -- are wrong, so that the counter rises in each round.
-use Rattle.std.proofs.Common.{inl, inr, ◌⊎◌, ◌≡◌, ◌≢◌, ℕ, zero, suc, ◌+◌, ◌-◌, ◌*◌, ◌/◌, ◌%◌, ◌≤◌, ◌<◌, Bool, true, false, not, ◌&&◌, ◌||◌, List, [], ◌∷◌, ◌++◌, length, length-append, take, Option, Some, None, refl, sym, ap, ◌∙◌, subst, arith}
+use Rattle.std.proofs.Common.{inl, inr, ◌≡◌, ◌≢◌, ℕ, zero, suc, ◌+◌, ◌-◌, ◌*◌, ◌/◌, ◌%◌, ◌≤◌, ◌<◌, Bool, true, false, not, ◌||◌, List, [], ◌∷◌, ◌++◌, length, length-append, take, None, refl, sym, ap, ◌∙◌, subst, arith}
 use Rattle.std.specs.Prelude.{if◌then◌else◌, ◌==◌}
 use Rattle.std.proofs.lemmas.Nat.{mod-mul-add, div-mul-add}
 use Rattle.std.proofs.lemmas.Bool.{cases_lt, ne_eqb, and_left, and_right, true≢false}
@@ -11,7 +11,7 @@ use Rattle.eg_answer.specs.Periods.{verdict_of, is_wrong, MarkedAnswer}
 use Rattle.eg_answer.specs.declared.marks.AnswerMark.TheVariants.{Absent, Good, Bad}
 use Rattle.eg_answer.specs.declared.modules.TheConstants.{REACT}
 use Rattle.eg_values.specs.Calibration.{CalibrationParts, IsAccepted}
-use Rattle.eg_fault.specs.Effects.{Effects, no_effects, sends_at}
+use Rattle.eg_fault.specs.Effects.{no_effects, sends_at}
 use Rattle.eg_fault.specs.Faults.{is_left_out, effects_of, effects}
 use Rattle.eg_fault.specs.Classes.{IsRegular}
 use Rattle.eg_fault.specs.declared.class.Class.TheVariants.{Lapse}
@@ -27,7 +27,7 @@ use Rattle.eg_model.proofs.TickLemmas.{length-moments, fields}
 use Rattle.eg_model.proofs.ClassLemmas.{of_history}
 use Rattle.eg_model.proofs.Silence.{NoGood, TrueRun, closed, wrongs, with_wrong, wrongs-cons, verdict_none, verdict_some, wrong_run, reached_confirms, sent_at_place, period_least, send_within}
 use Rattle.eg_model.proofs.LapseAnswers.{is_good_mark, whole_where_good, whole_before, absent_off_place}
-use Rattle.eg_model.proofs.SpanRows.{EndOf, end_of, follows-end}
+use Rattle.eg_model.proofs.SpanRows.{EndOf, end_of}
 use Rattle.eg_laws.specs.CloserMisses.{sends_missed}
 use Rattle.eg_laws.proofs.MissTicks.{missed, missed_not_whole}
 use Rattle.eg_laws.proofs.MissedTickLaws.{lapse_regular, apart}
