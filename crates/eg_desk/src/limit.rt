@@ -61,7 +61,7 @@ pub fn limits_of(calibration: &Calibration) -> Limits
 }
 
 /// The bound for lapses in ticks, if the calibration has one (docs/CONCEPT.md, "Lapses").
-pub(crate) fn lapse_of(calibration: &Calibration) -> Option<u32>
+fn lapse_of(calibration: &Calibration) -> Option<u32>
     ensures { let cal = calibration.now in
         SomeIff result (BoundsLapses cal) (lapse_bound_of cal.rules.torque cal.times) }
 {

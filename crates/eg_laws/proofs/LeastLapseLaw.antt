@@ -5,7 +5,7 @@ use Rattle.std.proofs.lemmas.Bool.{or_from}
 use Rattle.std.proofs.lemmas.List.{length-replicate}
 use Rattle.std.proofs.lemmas.List.Elements.{All-cons, All-nil, All-append, All-replicate}
 use Rattle.eg_num.specs.Windows.{WeightParts, is_confirmed}
-use Rattle.eg_answer.specs.Times.{feeds_to_confirm, reaction_of}
+use Rattle.eg_answer.specs.Times.{feeds_to_confirm, reaction_of, periods_to_confirm}
 use Rattle.eg_values.specs.Calibration.{CalibrationParts, IsAccepted}
 use Rattle.eg_fault.specs.Effects.{no_effects}
 use Rattle.eg_fault.specs.Faults.{effects_of, is_left_out, IsValidClass, IsNoneOrValid}
@@ -15,12 +15,13 @@ use Rattle.eg_model.specs.Paths.{latch2, path1_at, path2_at, both_conduct}
 use Rattle.eg_model.specs.Moments.{moments_of}
 use Rattle.eg_model.specs.Premises.{AreProper}
 use Rattle.eg_laws.specs.LeastReaction.{CanExceed, GoesOn, ShowsWord}
-use Rattle.eg_laws.specs.LeastLapse.{RunsFit, least_lapse_bound, lapse_onset, missing_all, lapse_setting, before_lapse, missed_excess, Lasts, ExcessLastsSoLong, LapseBoundIsLeast}
+use Rattle.eg_laws.specs.LeastLapse.{least_lapse_bound, lapse_onset, missing_all, lapse_setting, before_lapse, missed_excess, Lasts, ExcessLastsSoLong, LapseBoundIsLeast}
 use Rattle.eg_model.proofs.TickLemmas.{Each, tripped-cons}
-use Rattle.eg_model.proofs.Silence.{AreRegular, send_within}
+use Rattle.eg_model.proofs.Silence.{AreRegular}
 use Rattle.eg_model.proofs.SharpCutLaw.{Calm, calm_until, latch1_shut}
 use Rattle.eg_laws.proofs.FewVerdicts.{NoneOpens, HasFew, few_of_calm, few_on, still_shut}
 use Rattle.eg_model.proofs.LapseRuns.{AllOrNone, trip_out, AllExceed}
+use Rattle.eg_laws.proofs.LeastLaw.{room, last_is, onset_within}
 use Rattle.eg_laws.proofs.ExcessTicks.{follows_plain, follows_alike, ticks_shut, many_positive, all_bits, all_plain, unconfirmed, loaded_proper, all_go_on, all_words, all_proper, size, size_over, period_positive, reaction_is, more_exceed, excess_level, driven_on, all_exceed}
 
 -- ---- a tick that level 2 misses ----
@@ -50,7 +51,7 @@ same_always k = ap (λ out. record no_effects { ran = λ i. not out }) (always_o
 
 -- ---- the history ----
 
-module _ (cal : CalibrationParts) (accepted : IsAccepted cal) (fit : RunsFit cal) (can : CanExceed cal) where
+module _ (cal : CalibrationParts) (accepted : IsAccepted cal) (can : CanExceed cal) where
   abbrev s : Setting
   s = lapse_setting cal
 
@@ -75,8 +76,12 @@ module _ (cal : CalibrationParts) (accepted : IsAccepted cal) (fit : RunsFit cal
   abbrev whole : ℕ → List Tick
   whole n = replicate n miss ++ base
 
-  onset_is : lapse_onset cal ≡ cal.times.period + cal.times.send + 1
-  onset_is = unfold lapse_onset in omega arith
+  -- the number of the period after whose send tick the lapse begins
+  abbrev p : ℕ
+  p = periods_to_confirm torque cal.times
+
+  onset_is : lapse_onset cal ≡ p * cal.times.period + cal.times.send + 1
+  onset_is = last_is cal accepted can
 
   some : 0 < many
   some = many_positive s accepted can
@@ -86,7 +91,7 @@ module _ (cal : CalibrationParts) (accepted : IsAccepted cal) (fit : RunsFit cal
 
   size_base : length base ≡ lapse_onset cal
   size_base = size s accepted can bits ∙ size_over s accepted can (many - 1) first_quiet
-      ∙ (let a = some in let b = fit in let c = onset_is in omega arith)
+      ∙ (let a = some in let b = room cal accepted can in let c = onset_is in omega arith)
 
   size_whole : (n : ℕ) → length (whole n) ≡ n + lapse_onset cal
   size_whole n = length-append (replicate n miss) base ∙ ap₂ (λ a b. a + b) (length-replicate n miss) size_base
@@ -114,19 +119,19 @@ module _ (cal : CalibrationParts) (accepted : IsAccepted cal) (fit : RunsFit cal
   none_opens zero = ticks_shut s accepted can bits
   none_opens (suc n) = (unfold effects_of no_effects in refl, none_opens n)
 
-  few : (n : ℕ) → HasFew s (1 + 1) (whole n)
-  few n = few_on s accepted.times (1 + 1) (replicate n miss) base (regular n)
-      (let a = size_base in let b = onset_is in omega arith) (few_of_calm s (1 + 1) base calm)
+  few : (n : ℕ) → HasFew s (p + 1) (whole n)
+  few n = few_on s accepted.times (p + 1) (replicate n miss) base (regular n)
+      (let a = size_base in let b = onset_is in omega arith) (few_of_calm s (p + 1) base calm)
 
   shut : (n : ℕ) → n < reaction_of cal.times → latch2 (moments_of s (whole n)) ≡ false
   shut n early = still_shut s (period_positive s accepted can) (let a = accepted.answers.0 in omega arith)
-      (let a = accepted.answers.3 in omega arith) (1 + 1) (whole n) (few n) (none_opens n)
-      (law (length (whole n)) n (reaction_of cal.times) (feeds_to_confirm cal.times.weights) cal.times.period cal.times.send
+      (let a = accepted.answers.3 in omega arith) (p + 1) (whole n) (few n) (none_opens n)
+      (law (length (whole n)) n (reaction_of cal.times) p (feeds_to_confirm cal.times.weights) cal.times.period cal.times.send
       (reaction_is s accepted can) (size_whole n ∙ ap (λ k. n + k) onset_is) early)
     where
-      law : (l n r c period send : ℕ) → r + send + 1 ≡ (c + 1) * period → l ≡ n + (period + send + 1) →
-          n < r → l < (1 + 1 + c) * period
-      law l n r c period send is long early = grind arith
+      law : (l n r q c period send : ℕ) → r + send + 1 ≡ (c + 1) * period → l ≡ n + (q * period + send + 1) →
+          n < r → l < (q + 1 + c) * period
+      law l n r q c period send is long early = grind arith
 
   on : (n : ℕ) → n < reaction_of cal.times → both_conduct (effects_of missing_all 0) (moments_of s (whole n)) ≡ true
   unfolding both_conduct path1_at path2_at effects_of no_effects
@@ -161,7 +166,7 @@ module _ (cal : CalibrationParts) (accepted : IsAccepted cal) (fit : RunsFit cal
         (All-replicate ShowsWord (reaction_of cal.times) miss (can.is_word, can.is_word))
         (all_words s accepted can bits);
     exceeds = record {
-      within = (let a = size_whole (reaction_of cal.times) in let b = bound_is in let c = onset_is in let d = fit in omega arith);
+      within = (let a = size_whole (reaction_of cal.times) in let b = bound_is in let c = onset_is in let d = room cal accepted can in omega arith);
       each = exceeds (reaction_of cal.times) (least_lapse_bound cal - 1)
           (let a = bound_is in let b = some in omega arith);
     };
@@ -170,7 +175,7 @@ module _ (cal : CalibrationParts) (accepted : IsAccepted cal) (fit : RunsFit cal
   valid : IsNoneOrValid s.fault
   unfolding IsNoneOrValid IsValidClass
   valid = (
-    (let a = onset_is in let b = accepted.times.longest in let c = send_within cal.times accepted.times in omega arith),
+    (let a = onset_within cal accepted can in omega arith),
     (
       (omega arith, omega arith),
       All-cons (λ k. k ≤ 19999) 0 [] (omega arith) (All-nil (λ k. k ≤ 19999)),
@@ -180,11 +185,11 @@ module _ (cal : CalibrationParts) (accepted : IsAccepted cal) (fit : RunsFit cal
   )
 
 pub excess_lasts_so_long : ExcessLastsSoLong
-excess_lasts_so_long cal accepted fit can = (valid cal accepted fit can, lasts cal accepted fit can)
+excess_lasts_so_long cal accepted can = (valid cal accepted can, lasts cal accepted can)
 
 pub lapse_bound_is_least : LapseBoundIsLeast
-lapse_bound_is_least cal accepted fit can bound stay =
-    let these = lasts cal accepted fit can in
+lapse_bound_is_least cal accepted can bound stay =
+    let these = lasts cal accepted can in
     let below : least_lapse_bound cal - 1 < bound =
     stay (lapse_setting cal) refl (record { onset = lapse_onset cal; after = 0 ∷ []; every = 1; is = refl }) 0 _
     these.follows these.proper (least_lapse_bound cal - 1) these.exceeds in

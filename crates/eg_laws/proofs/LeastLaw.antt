@@ -116,7 +116,7 @@ module _ (cal : CalibrationParts) (accepted : IsAccepted cal) (can : CanExceed c
           below : (n u l : ℕ) → 0 < u → n * u < l → l ≤ 10000 → suc n ≤ 10000
           below n u l some low most = grind arith
 
-  onset_within : last_excess cal + 1 ≤ 19999
+  pub onset_within : last_excess cal + 1 ≤ 19999
   onset_within =
       let whole : p * cal.times.period ≤ many + (cal.times.period - 1) =
       (unfold periods_to_confirm in div-mul-le_self (many + (cal.times.period - 1)) cal.times.period) in

@@ -21,6 +21,7 @@ pub mod AvailabilityLaws
 pub mod AvailabilityRecords
 pub mod ShortStretches
 pub mod LeastLapseLaw
+pub mod LeastMissedLaw
 pub mod MissedRuns
 pub mod WrongVerdicts
 pub mod OneVerdict
@@ -33,6 +34,7 @@ pub mod StretchRows
 pub mod BurstRows
 pub mod MissedTickLaws
 pub mod MissedTickRecords
+pub mod SendMisses
 pub mod BurstRuns
 pub mod KindLaws
 pub mod PeakLaws
@@ -50,6 +52,7 @@ pub mod CoverageRecords
 pub mod LatentTicks
 pub mod LatentRuns
 pub mod LatentLaws
+pub mod CloserMissesLaw
 pub mod LatentNear
 pub mod LatentOffsets
 pub mod LatentRest

@@ -51,7 +51,7 @@ lapse_conducts f lapse t path is_open = elim (lapse_tick f lapse t) [
   | inr out ↦ ap (λ x. x.conducts path is_open) out
 ]
 
-missed_not_whole : is_whole missed ≡ false
+pub missed_not_whole : is_whole missed ≡ false
 unfolding is_whole modules modules_before_react missed no_effects
 missed_not_whole = refl
 

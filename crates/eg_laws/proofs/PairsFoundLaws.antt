@@ -25,7 +25,7 @@ use Rattle.eg_model.specs.Seeing.{SeesExcess}
 use Rattle.eg_model.specs.Engines.{BenchEngine, IsOneLoad, KeepsBenchLaws, ShowsOneLoad}
 use Rattle.eg_laws.specs.Availability.{has_tripped}
 use Rattle.eg_laws.specs.PairsFound.{SparesModules, Pair, Pedal, Plate, Load, Speed, finds_pair, pair_disagrees, entry_of, read_at, disagrees_at, FindsPairs, has_found, FindsDisagreement, RecordsFindPairs, DisagreeingRowsAreFound}
-use Rattle.eg_model.proofs.TickLemmas.{bit_of, found_by, fields, length-moments, moment-feeds, tripped-cons, untripped_before}
+use Rattle.eg_model.proofs.TickLemmas.{bit_of, found_by, fields, length-moments, moment-feeds, untripped_before}
 use Rattle.eg_model.proofs.TickLemmas as ticks
 use Rattle.eg_model.proofs.TripLemmas.{fed_bits-cons}
 use Rattle.eg_model.proofs.Seeing.{signal_value}

@@ -57,6 +57,16 @@ pub misses_once : (onset after t : ℕ) → misses_tick (Some (single_miss onset
 unfolding turn
 misses_once onset after t out = let c = comes onset after 0 t out in let l = c.from in let p = c.place in omega (arith, l, p)
 
+-- the lapse of one tick in so many misses no other
+pub misses_in_turn : (onset after every t : ℕ) → 0 < every →
+    misses_tick (Some (record { onset = onset; class = Lapse (after ∷ []) every })) t ≡ true →
+    (onset ≤ t) × (after ≡ (t - onset) % every)
+unfolding turn
+misses_in_turn onset after every t some out = let c = comes onset after every t out in (
+  c.from,
+  c.place ∙ ap (λ b. if b then t - onset else (t - onset) % every) (ne_eqb every 0 (λ e. omega (arith, e, some))),
+)
+
 -- two numbers of one place lie a whole turn apart
 pub turn_apart : (u v n : ℕ) → u % suc n ≡ v % suc n → u < v → u + suc n ≤ v
 turn_apart u v n same less = more (u / suc n) (v / suc n) (v % suc n) (omega (arith, same)) (omega arith)

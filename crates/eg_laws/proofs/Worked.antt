@@ -16,7 +16,7 @@ use Rattle.eg_model.specs.Premises.{AreProper}
 use Rattle.eg_model.proofs.TickLemmas.{parts_of, fields}
 use Rattle.eg_model.proofs.WholeModel.{whole_model}
 use Rattle.eg_laws.specs.LeastReaction.{last_excess}
-use Rattle.eg_laws.specs.LeastLapse.{least_lapse_bound, lapse_onset}
+use Rattle.eg_laws.specs.LeastLapse.{least_lapse_bound}
 use Rattle.eg_values.specs.Excess.{ticks_to_confirm, longest_stretch}
 use Rattle.eg_laws.specs.Stretches.{faultless_setting}
 use Rattle.eg_laws.specs.Bursts.{most_bad, densest, hasty}
@@ -40,12 +40,12 @@ unfolding least_lapse_bound reaction_of feeds_to_confirm
 longest-bound = refl
 
 pub longest-stages : map (λ m. m.on) (reverse longest_excess) ≡ replicate 50 true ++ false ∷ []
-unfolding whole_model lapse_onset feeds_to_confirm
+unfolding whole_model last_excess feeds_to_confirm periods_to_confirm
 longest-stages = refl
 
 pub longest-excess : map (true_excess reference_rules.threshold) (reverse (rows_of longest_excess))
     ≡ replicate 12 false ++ replicate 38 true ++ false ∷ []
-unfolding whole_model lapse_onset feeds_to_confirm
+unfolding whole_model last_excess feeds_to_confirm periods_to_confirm
 longest-excess = refl
 
 -- ---- path 1 is closed right after the same excess, which goes on ----

@@ -12,7 +12,7 @@ use Rattle.eg_fault.specs.declared.class.Class.TheVariants.{Lapse}
 use Rattle.eg_model.specs.History.{Setting, Tick}
 use Rattle.eg_model.specs.Premises.{AreProper, Follows}
 use Rattle.eg_model.specs.Lapses.{Exceeds, StretchesStayBelow}
-use Rattle.eg_laws.specs.LeastReaction.{CanExceed, GoesOn, ShowsWord, giving, by_bits}
+use Rattle.eg_laws.specs.LeastReaction.{CanExceed, GoesOn, ShowsWord, giving, by_bits, last_excess}
 
 -- D is at most the period
 abbrev pub RunsFit : CalibrationParts → Type 0
@@ -39,9 +39,9 @@ NoneStandsSoLong =
 
 -- ---- the history that shows that no smaller number is a bound ----
 
--- the tick after the send tick of the second period
-unfoldable pub lapse_onset : CalibrationParts → ℕ
-lapse_onset cal = cal.times.period + cal.times.send + 1
+-- level 2 misses each tick from this one on: it comes right behind a send tick that leaves room for D ticks
+abbrev pub lapse_onset : CalibrationParts → ℕ
+lapse_onset cal = last_excess cal
 
 -- level 2 misses every tick from the onset on
 abbrev pub missing_all : Class
@@ -76,7 +76,7 @@ pub record Lasts (s : Setting) (h : List Tick) (n : ℕ) : Type 0 where
 -- the excess lasts R + D - 1 ticks: D - 1 before the lapse, and R under it
 abbrev pub ExcessLastsSoLong : Type 0
 ExcessLastsSoLong =
-    (cal : CalibrationParts) → IsAccepted cal → RunsFit cal → (can : CanExceed cal) →
+    (cal : CalibrationParts) → IsAccepted cal → (can : CanExceed cal) →
     IsNoneOrValid (lapse_setting cal).fault
     × Lasts (lapse_setting cal)
     (replicate (reaction_of cal.times) (missed_excess cal can.drive can.load)
@@ -86,5 +86,5 @@ ExcessLastsSoLong =
 -- C72
 abbrev pub LapseBoundIsLeast : Type 0
 LapseBoundIsLeast =
-    (cal : CalibrationParts) → IsAccepted cal → RunsFit cal → CanExceed cal → (bound : ℕ) →
+    (cal : CalibrationParts) → IsAccepted cal → CanExceed cal → (bound : ℕ) →
     StretchesStayBelow cal bound → least_lapse_bound cal ≤ bound

@@ -4,6 +4,7 @@ pub mod Showing
 pub mod LeastReaction
 pub mod LeastLapse
 pub mod MissedStretch
+pub mod LeastMissed
 pub mod Stretches
 pub mod Limits
 pub mod InWords
@@ -19,5 +20,6 @@ pub mod PairsFound
 pub mod SharpUnder
 pub mod Coverage
 pub mod Latent
+pub mod CloserMisses
 pub mod NeverCuts
 pub mod Examples

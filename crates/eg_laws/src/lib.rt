@@ -9,11 +9,13 @@
 
 mod availability;
 mod bursts;
+mod closer_misses;
 mod coverage;
 mod findings;
 mod in_words;
 mod latent;
 mod least_lapse;
+mod least_missed;
 mod least_reaction;
 mod limits;
 mod missed_stretch;
@@ -33,6 +35,7 @@ pub use availability::{far_misses_never_cut, records_stay_available};
 pub use bursts::{
     bursts_are_sparse, bursts_last, densest_feeds, records_are_sparse, records_end_bursts,
 };
+pub use closer_misses::closer_misses_cut;
 pub use coverage::{
     closed_paths_are_found, moved_answers_are_cut, spoiled_answers_open_path_2,
     wrong_answers_are_found_exactly, wrong_answers_run,
@@ -44,6 +47,7 @@ pub use latent::{
     small_offsets_stay_hidden, small_scripts_stay_hidden,
 };
 pub use least_lapse::{lapse_bound_is_least, longest_excess_run};
+pub use least_missed::missed_bound_is_least;
 pub use least_reaction::{latest_cut_run, reaction_is_least};
 pub use limits::records_keep_limits;
 pub use missed_stretch::missed_excess_ends;

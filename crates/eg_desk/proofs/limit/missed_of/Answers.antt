@@ -1,4 +1,4 @@
-use Rattle.std.proofs.Common.{◌≡◌, ◌≤◌, ◌<◌, ap₂, ◌∙◌, subst, sym, arith}
+use Rattle.std.proofs.Common.{◌≤◌, ◌<◌, ap₂, ◌∙◌, subst, sym, arith}
 use Rattle.eg_num.specs.Windows.{WeightParts, AreWeights}
 use Rattle.eg_answer.specs.Times.{TimeParts, feeds_to_confirm, longest_missed_of}
 use Rattle.eg_answer.specs.declared.rules.Rules.{Rules}
