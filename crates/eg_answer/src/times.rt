@@ -199,8 +199,7 @@ fn most_wrong(weights: &Weights, rights: u32) -> u32
     weighed.min(verdicts + rights * (verdicts - 1))
 }
 
-/// How many ticks the periods have whose verdicts a debouncer takes as wrong beyond those that confirm in a row
-/// (docs/CONCEPT.md, "Lapses").
+/// The ticks of the periods whose wrong verdicts a debouncer takes beyond those that confirm in a row (C103).
 fn further_ticks(torque: &Weights, times: &Times) -> u32
     ensures number { result ≡ further_ticks torque.now times.now }
     ensures within { result ≤ 100000000 }

@@ -6,13 +6,13 @@ ghost use Rattle.eg_model.specs.Rows.{rows_of};
 ghost use Rattle.eg_laws.specs.LeastLapse.{least_lapse_bound, StretchesAreShorter, NoneStandsSoLong, ExcessLastsSoLong, LapseBoundIsLeast};
 ghost use Rattle.eg_laws.specs.Examples.{longest_excess};
 
-/// The least bound under lapses, where the D runs of level 2 that confirm an excess fit into one period
-/// (docs/CONCEPT.md, "Lapses"). `lasts` has the reason: some stretch lasts R + D - 1 ticks. By `below`, where D
-/// is at most `send` + 1, no excess stands for `lapse_periods` whole periods. It does nothing when it runs.
+/// R + D as a bound under lapses (docs/CONCEPT.md, "Lapses"). `lasts` has the reason why no smaller number is
+/// one: some stretch lasts R + D - 1 ticks. By `below`, where D is at most `send` + 1, no excess stands for
+/// `lapse_periods` whole periods. It does nothing when it runs.
 ///
 /// Claim 22 (C72; `shorter`, `least`): Under lapses, with a calibration without a ramp and with D at most the
-/// period, each stretch of true excess has fewer than R + D ticks. If D is at most the period and the
-/// calibration lets an excess be confirmed at all, no smaller number serves for all engines.
+/// period, each stretch of true excess has fewer than R + D ticks. If the calibration lets an excess be confirmed
+/// at all, no smaller number serves for all engines, whatever ramp and D are.
 pub fn lapse_bound_is_least()
     ensures shorter { StretchesAreShorter }
     ensures below { NoneStandsSoLong }
