@@ -1,6 +1,6 @@
--- Outside the headline. Level 2 and the model agree over whole spans of either kind: the eight modules run
--- one after another at each tick, from the start on, and their words stand for the history; what they send
--- at the next tick, compared with what is expected, is what the model calls it.
+-- Level 2 and the model agree over whole spans of either kind: the eight modules run one after another at
+-- each tick, from the start on, and their words stand for the history; what they send at the next tick,
+-- compared with what is expected, is what the model calls it.
 use Rattle.std.specs.Prelude.{◌≡◌, ◌<◌, ℕ, true, false, List, [], ◌∷◌, length, if◌then◌else◌}
 use Rattle.eg_answer.specs.declared.modules.TheConstants.{CHECK}
 use Rattle.eg_values.specs.Calibration.{IsAccepted}

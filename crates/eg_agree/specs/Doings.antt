@@ -1,5 +1,5 @@
--- Outside the headline. What level 2 meets at a tick of a span: by what the span is for, the calibration,
--- what is out of order, and what is read.
+-- What level 2 meets at a tick of a span: by what the span is for, the calibration, what is out of order, and
+-- what is read.
 use Rattle.std.specs.Prelude.{ℕ, is_some, length, if◌then◌else◌}
 use Rattle.eg_sensor.specs.declared.readings.Readings.{Readings}
 use Rattle.eg_answer.specs.Times.{TimeParts}

@@ -1,6 +1,6 @@
--- Outside the headline. What level 2 answers over a span of either kind, against the answers of the model:
--- its modules run one after another, from the start on, and the number that it sends is compared with the
--- number that the monitoring module expects.
+-- What level 2 answers over a span of either kind, against the answers of the model: its modules run one
+-- after another, from the start on, and the number that it sends is compared with the number that the
+-- monitoring module expects.
 use Rattle.std.specs.Prelude.{◌≡◌, ℕ, ◌<◌, ◌==◌, ◌⊎◌, Bool, true, false, is_some, List, [], ◌∷◌, length, Option, Some, None, if◌then◌else◌}
 use Rattle.std.specs.List.{list_any}
 use Rattle.eg_answer.specs.Answers.{answer_number}

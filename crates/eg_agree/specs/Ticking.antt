@@ -1,4 +1,4 @@
--- Outside the headline. One tick of level 2 over its words is one tick of the model.
+-- One tick of level 2 over its words is one tick of the model.
 use Rattle.std.specs.Prelude.{◌≡◌, ℕ, ◌≤◌, false, is_some, List, [], ◌∷◌, length}
 use Rattle.eg_num.specs.declared.watches.Watches.{Watches}
 use Rattle.eg_answer.specs.declared.modules.TheConstants.{REACT, MODULES}

@@ -1,4 +1,4 @@
--- Outside the headline. What a brake that is taken as pressed does to the torque that level 2 permits.
+-- What a brake that is taken as pressed does to the torque that level 2 permits.
 use Rattle.std.specs.Prelude.{◌≤◌, Bool}
 use Rattle.eg_num.specs.Interpolation.{IsGrid}
 use Rattle.eg_torque.specs.Permit.{DoesNotFall}

@@ -1,5 +1,5 @@
--- Outside the headline. The token of the program flow check: in a tick the eight modules of level 2 move
--- it one after another, from 0 on. In the end it is 255 exactly if all eight moved it, in their order.
+-- The token of the program flow check: in a tick the eight modules of level 2 move it one after another, from
+-- 0 on. In the end it is 255 exactly if all eight moved it, in their order.
 use Rattle.std.specs.Prelude.{◌≡◌, ◌↔◌, ℕ, ◌+◌, ◌-◌, ◌<◌, ◌^◌, ◌==◌, List, [], ◌∷◌, All, reverse, if◌then◌else◌}
 use Rattle.eg_answer.specs.declared.modules.TheConstants.{MODULES}
 use Rattle.eg_answer.specs.Modules.{modules}

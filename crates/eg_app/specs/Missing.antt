@@ -1,5 +1,5 @@
--- Outside the headline. How missing files are told over a sure store. `Told` says of an outcome that the call
--- ended with it. That reading fails only if the file is missing is said by `FileComes`, in `Ends`.
+-- How missing files are told over a sure store. `Told` says of an outcome that the call ended with it. That
+-- reading fails only if the file is missing is said by `FileComes`, in `Ends`.
 use Rattle.std.specs.Prelude.{◌≡◌, ◌↔◌, ◌⊎◌, ℕ, List, Option, Some, None, option_map, IfSome, IsTrue, Result, Ok, Err}
 use Rattle.eg_base.specs.Outside.{ShownStore, IsMissing}
 use Rattle.eg_outcome.specs.Calibrations.{AcceptsCalibration, MissesCalibration}

@@ -1,4 +1,4 @@
--- Outside the headline. A call to which no lines come.
+-- A call to which no lines come.
 use Rattle.std.specs.Prelude.{true, [], Option, Some}
 use Rattle.eg_base.specs.Outside.{ShownStore, ShownSink}
 use Rattle.eg_lines.specs.Lines.{ShownLines}

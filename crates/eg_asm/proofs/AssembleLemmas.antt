@@ -9,9 +9,9 @@ use Rattle.eg_asm.specs.declared.fault.AsmFault.TheVariants as fault
 use Rattle.eg_asm.specs.declared.source.Source.{Source}
 use Rattle.eg_asm.specs.Grammar.{Item}
 use Rattle.eg_asm.specs.Words.{Labels, labels_of}
-use Rattle.eg_asm.specs.Encodings.{Encoded}
-use Rattle.eg_asm.specs.Kept.{HoldsItems, placed_shown, instructions_from, repeat_behind}
-use Rattle.eg_asm.specs.Linking.{linked_kept, HasLabels}
+use Rattle.eg_asm.specs.Inner.Encodings.{Encoded}
+use Rattle.eg_asm.specs.Inner.Kept.{HoldsItems, placed_shown, instructions_from, repeat_behind}
+use Rattle.eg_asm.specs.Inner.Linking.{linked_kept, HasLabels}
 use Rattle.eg_asm.specs.Sources.{Assembles}
 use Rattle.eg_asm.specs.Reading.{items_from, words_read, assembled, IsAssembled}
 use Rattle.eg_asm.proofs.LinkLaws.{same_answer}

@@ -9,8 +9,8 @@ use Rattle.eg_asm.specs.declared.operand.Operand.TheVariants as operand
 use Rattle.eg_asm.specs.declared.encoding.Jump.{Jump}
 use Rattle.eg_asm.specs.Forms.{Form, forms, form_named}
 use Rattle.eg_asm.specs.Grammar.{Value, Register, Number, Name, Distance, Fits}
-use Rattle.eg_asm.specs.Encodings.{Encoded, with_operand, with_operands, encoded, jump_shown}
-use Rattle.eg_asm.specs.Room.{room_of}
+use Rattle.eg_asm.specs.Inner.Encodings.{Encoded, with_operand, with_operands, encoded, jump_shown}
+use Rattle.eg_asm.specs.Inner.Room.{room_of}
 use Rattle.eg_asm.specs.Reading.{values_of}
 use Rattle.eg_asm.proofs.FormLemmas.{each_form, option_map_some}
 use Rattle.eg_asm.proofs.LineLaws.{values_of-back}

@@ -8,9 +8,9 @@ use Rattle.std.proofs.lemmas.Slice.Eq.{bytes_eq-Decides}
 use Rattle.eg_asm.specs.Forms.{Form, form_named}
 use Rattle.eg_asm.specs.Grammar.{Value, Item, Nothing, Comment, Label, Instruction}
 use Rattle.eg_asm.specs.Words.{Labels, size, word_count, labels_from, labels_of, address_of}
-use Rattle.eg_asm.specs.Encodings.{Encoded, told, encoded}
-use Rattle.eg_asm.specs.Encodings as tells
-use Rattle.eg_asm.specs.Kept.{numbered, instructions_from, is_repeat, repeat_behind, Keeps, HasForm}
+use Rattle.eg_asm.specs.Inner.Encodings.{Encoded, told, encoded}
+use Rattle.eg_asm.specs.Inner.Encodings as tells
+use Rattle.eg_asm.specs.Inner.Kept.{numbered, instructions_from, is_repeat, repeat_behind, Keeps, HasForm}
 
 -- ---- one item more at the end ----
 

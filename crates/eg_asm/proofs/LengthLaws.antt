@@ -12,7 +12,7 @@ use Rattle.eg_asm.specs.declared.operand.Operand.TheVariants as operand
 use Rattle.eg_asm.specs.Forms.{Form, forms, word_form}
 use Rattle.eg_asm.specs.Numerals.{numeral}
 use Rattle.eg_asm.specs.Grammar.{text_of_value, text_of_values, text_of, line_of}
-use Rattle.eg_asm.specs.Usable.{is_usable}
+use Rattle.eg_asm.specs.Inner.Usable.{is_usable}
 use Rattle.eg_asm.specs.Listings.{value_in, values_in, is_of, form_of, item_of, source_text}
 use Rattle.eg_asm.proofs.FormLemmas.{find-all}
 use Rattle.eg_asm.proofs.ListingLemmas.{signed-low, signed-high}

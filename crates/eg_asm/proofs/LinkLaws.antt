@@ -9,10 +9,10 @@ use Rattle.eg_asm.specs.declared.operand.Operand.TheVariants as operand
 use Rattle.eg_asm.specs.Forms.{Form, forms, form_named}
 use Rattle.eg_asm.specs.Grammar.{Value, Register, Number, Name, Distance, Fits, Item, Nothing, Comment, Label, Instruction, IsItem}
 use Rattle.eg_asm.specs.Words.{Labels, size, word_count, labels_of, address_of, complement_of, distance_to, field_of, added, fields_of, word_with, word_of, word_at, words_from, item_words, is_sound, fault_behind, first_fault}
-use Rattle.eg_asm.specs.Encodings.{Encoded, capped, capped_target, with_operand, with_operands, encoded, Told, told}
-use Rattle.eg_asm.specs.Encodings as tells
-use Rattle.eg_asm.specs.Kept.{numbered, instructions_from, is_repeat, repeat_behind}
-use Rattle.eg_asm.specs.Linking.{jump_field, completed, unresolved, completed_words, earlier, words_unless, linked_kept}
+use Rattle.eg_asm.specs.Inner.Encodings.{Encoded, capped, capped_target, with_operand, with_operands, encoded, Told, told}
+use Rattle.eg_asm.specs.Inner.Encodings as tells
+use Rattle.eg_asm.specs.Inner.Kept.{numbered, instructions_from, is_repeat, repeat_behind}
+use Rattle.eg_asm.specs.Inner.Linking.{jump_field, completed, unresolved, completed_words, earlier, words_unless, linked_kept}
 use Rattle.eg_asm.specs.Reading.{linked}
 use Rattle.eg_asm.proofs.FormLemmas.{each_form}
 use Rattle.eg_asm.proofs.KeepsLemmas.{word_count-one}

@@ -2,8 +2,8 @@
 use Rattle.std.proofs.Common.{◌≡◌, refl, ℕ, ◌+◌, ◌<◌, ◌≤◌, List, [], ◌∷◌, length, drop, get_or, Some, None}
 use Rattle.std.proofs.lemmas.List.{drop_all, drop_more}
 use Rattle.eg_asm.specs.Words.{Labels}
-use Rattle.eg_asm.specs.Encodings.{Encoded}
-use Rattle.eg_asm.specs.Linking.{completed, unresolved, completed_words}
+use Rattle.eg_asm.specs.Inner.Encodings.{Encoded}
+use Rattle.eg_asm.specs.Inner.Linking.{completed, unresolved, completed_words}
 
 -- an instruction that has a word
 pub link-more : (labels : Labels) (address : ℕ) (is : List (ℕ × Encoded)) (i : ℕ × Encoded) (word : ℕ) → address < length is → get_or is address i ≡ i → Some word ≡ completed labels address i.1

@@ -13,7 +13,7 @@ use Rattle.eg_asm.specs.declared.operand.Operand.{Operand}
 use Rattle.eg_asm.specs.declared.operand.Operand.TheVariants as operand
 use Rattle.eg_asm.specs.Grammar.{Value, text_of_value, text_of_values}
 use Rattle.eg_asm.specs.Numerals.{numeral, integer}
-use Rattle.eg_asm.specs.Usable.{is_usable, are_usable}
+use Rattle.eg_asm.specs.Inner.Usable.{is_usable, are_usable}
 use Rattle.eg_asm.specs.Words.{Labels, complement_of, distance_to, field_of, fields_of}
 use Rattle.eg_asm.specs.Listings.{value_in}
 use Rattle.eg_asm.proofs.LinkLaws.{add-more}

@@ -10,7 +10,7 @@ use Rattle.std.proofs.lemmas.List.Sums.{fails_before_first}
 use Rattle.std.proofs.lemmas.Bool.{cases_Bool}
 use Rattle.eg_asm.specs.declared.operand.Operand.{Operand}
 use Rattle.eg_asm.specs.Grammar.{Value}
-use Rattle.eg_asm.specs.Encodings.{Encoded, with_operand, with_operands}
+use Rattle.eg_asm.specs.Inner.Encodings.{Encoded, with_operand, with_operands}
 use Rattle.eg_asm.specs.Reading.{is_byte, behind_first, texts_in, value_of, values_of, value_before}
 
 -- the text of the first operand, and the texts of the others

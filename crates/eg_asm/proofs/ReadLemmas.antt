@@ -8,8 +8,8 @@ use Rattle.eg_asm.specs.declared.fault.AsmFault.{AsmFault}
 use Rattle.eg_asm.specs.declared.source.Source.{Source}
 use Rattle.eg_asm.specs.Grammar.{Item, Nothing, Comment, Label, Instruction, IsItem}
 use Rattle.eg_asm.specs.Words.{size, word_count}
-use Rattle.eg_asm.specs.Encodings.{Told, told}
-use Rattle.eg_asm.specs.Kept.{HasForm, HoldsItems, ReadsMore, StopsAt}
+use Rattle.eg_asm.specs.Inner.Encodings.{Told, told}
+use Rattle.eg_asm.specs.Inner.Kept.{HasForm, HoldsItems, ReadsMore, StopsAt}
 use Rattle.eg_asm.specs.Reading.{item_in, item_behind, refusal, item_before, items_from}
 use Rattle.eg_asm.proofs.LineLaws.{said-form}
 use Rattle.eg_asm.proofs.CutLaws.{lines_of-cut}

@@ -9,7 +9,7 @@ use Rattle.eg_asm.specs.Forms.{Form, form_named}
 use Rattle.eg_asm.specs.Grammar as item
 use Rattle.eg_asm.specs.Grammar.{Value, Item}
 use Rattle.eg_asm.specs.Words.{size}
-use Rattle.eg_asm.specs.Encodings.{encoded, Instruction, told, told_with_room}
+use Rattle.eg_asm.specs.Inner.Encodings.{encoded, Instruction, told, told_with_room}
 use Rattle.eg_asm.specs.Reading.{is_byte, behind_first, texts_in, values_of, instruction_in, item_in, with_room, item_behind}
 use Rattle.eg_asm.proofs.FormLemmas.{form_named-same}
 use Rattle.eg_asm.proofs.LineLaws.{said-form}

@@ -6,9 +6,4 @@ pub mod Sources
 pub mod Listings
 pub mod Meanings
 pub mod Reading
-pub mod Usable
-pub mod Rows
-pub mod Encodings
-pub mod Room
-pub mod Kept
-pub mod Linking
+pub mod Inner

@@ -1,4 +1,4 @@
--- Outside the headline. What the instructions of a source mean to the machine (F28, F43).
+-- What the instructions of a source mean to the machine (F28, F43).
 use Rattle.std.specs.Prelude.{◌≡◌, ℕ, ℤ, List, [], ◌∷◌, codes, Some}
 use Rattle.eg_word.specs.declared.instruction.Instruction.{Instruction}
 use Rattle.eg_word.specs.declared.instruction.Instruction.TheVariants as machine

@@ -1,5 +1,5 @@
--- Outside the headline. How a source is read, line by line. Reading undoes what the grammar writes: this is
--- the law `sources_have_one_answer`. Sources.antt says what a source is.
+-- How a source is read, line by line. Reading undoes what the grammar writes: this is the law
+-- `sources_have_one_answer`. Sources.antt says what a source is.
 use Rattle.std.specs.Prelude.{◌≡◌, ◌⊎◌, ℕ, ◌+◌, ◌-◌, ◌==◌, ℤ, pos, negsuc, if◌then◌else◌, nat_lt, nat_le, Bool, ◌&&◌, ◌||◌, List, [], ◌∷◌, length, drop, take, slice_index, codes, Option, Some, None, option_map, option_and_then, Result, Ok, Err}
 use Rattle.std.specs.Char.{is_ascii_digit}
 use Rattle.std.specs.Int.{is_in_range}

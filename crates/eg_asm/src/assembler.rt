@@ -10,7 +10,7 @@ ghost use Rattle.eg_asm.specs.Words.{Labels, word_of};
 ghost use Rattle.eg_asm.specs.Sources.{Assembles};
 ghost use Rattle.eg_asm.specs.Listings.{source_text};
 ghost use Rattle.eg_asm.specs.Meanings.{Means};
-ghost use Rattle.eg_asm.specs.Kept.{HoldsItems};
+ghost use Rattle.eg_asm.specs.Inner.Kept.{HoldsItems};
 ghost use Rattle.eg_asm.specs.Reading.{items_from, assembled};
 
 use crate::AsmFault;

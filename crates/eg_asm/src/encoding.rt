@@ -3,7 +3,7 @@ ghost use Rattle.std.specs.Prelude.{◌≡◌, ◌+◌, ◌*◌, ◌^◌, ◌<�
 ghost use Rattle.std.specs.Char.{is_ascii_lowercase};
 ghost use Rattle.std.specs.List.{list_all};
 ghost use Rattle.eg_asm.specs.Numerals.{is_name};
-ghost use Rattle.eg_asm.specs.Encodings.{capped, capped_target, with_operand, target_shown, encoding_shown};
+ghost use Rattle.eg_asm.specs.Inner.Encodings.{capped, capped_target, with_operand, target_shown, encoding_shown};
 ghost use Rattle.eg_asm.specs.Reading.{at_most, negative, numeral_in, register_in, integer_in, target_in, value_of};
 
 use crate::Operand;
@@ -32,7 +32,7 @@ pub(crate) struct Encoding<'a> {
 
 impl<'a> Encoding<'a> {
     /// This encoding with one operand more, which the text writes.
-    #[tactic(auto, unfolding(crate::specs::Encodings::with_operand, crate::specs::Reading::value_of))]
+    #[tactic(auto, unfolding(crate::specs::Inner::Encodings::with_operand, crate::specs::Reading::value_of))]
     pub(crate) fn with(self, operand: Operand, text: &'a [u8]) -> Option<Encoding<'a>>
         requires { self.word < 2 ^ 24 }
         ensures shown { option_map encoding_shown result
@@ -72,7 +72,7 @@ fn register_in(text: &[u8]) -> Option<u8>
 }
 
 /// The target that a text writes.
-#[tactic(auto, unfolding(crate::specs::Reading::target_in, crate::specs::Encodings::capped_target))]
+#[tactic(auto, unfolding(crate::specs::Reading::target_in, crate::specs::Inner::Encodings::capped_target))]
 fn target_in(text: &[u8]) -> Option<Target<'_>>
     ensures { option_map target_shown result ≡ option_map capped_target (target_in text.now) }
 {
@@ -83,7 +83,7 @@ fn target_in(text: &[u8]) -> Option<Target<'_>>
 }
 
 /// The number that a numeral with or without a sign writes, cut at 65,536 either way.
-#[tactic(auto, unfolding(crate::specs::Reading::integer_in, crate::specs::Encodings::capped))]
+#[tactic(auto, unfolding(crate::specs::Reading::integer_in, crate::specs::Inner::Encodings::capped))]
 fn integer_in(text: &[u8]) -> Option<i32>
     ensures { result ≡ option_map capped (integer_in text.now) }
 {

@@ -1,8 +1,8 @@
 // A form of instructions.
 ghost use Rattle.std.specs.Prelude.{◌≡◌, true};
 ghost use Rattle.eg_asm.specs.Listings.{is_of};
-ghost use Rattle.eg_asm.specs.Rows.{form_in};
-ghost use Rattle.eg_asm.specs.Usable.{are_usable};
+ghost use Rattle.eg_asm.specs.Inner.Rows.{form_in};
+ghost use Rattle.eg_asm.specs.Inner.Usable.{are_usable};
 
 use crate::Operand;
 

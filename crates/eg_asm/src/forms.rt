@@ -2,8 +2,8 @@
 ghost use Rattle.std.specs.Prelude.{◌≡◌, true, map, option_map};
 ghost use Rattle.eg_asm.specs.Forms.{forms, form_named};
 ghost use Rattle.eg_asm.specs.Listings.{form_of};
-ghost use Rattle.eg_asm.specs.Rows.{form_in};
-ghost use Rattle.eg_asm.specs.Usable.{are_usable};
+ghost use Rattle.eg_asm.specs.Inner.Rows.{form_in};
+ghost use Rattle.eg_asm.specs.Inner.Usable.{are_usable};
 ghost use Rattle.std.specs.List.{list_all};
 
 use crate::Operand;
@@ -45,7 +45,7 @@ static FORMS: [FormRow; 18] = [
 ];
 
 /// All forms.
-#[tactic(auto, unfolding(crate::specs::Forms::forms, crate::specs::Usable::is_usable))]
+#[tactic(auto, unfolding(crate::specs::Forms::forms, crate::specs::Inner::Usable::is_usable))]
 fn all_forms() -> &'static [FormRow]
     ensures all { map form_in result.now ≡ forms }
     ensures usable { list_all (λ row. are_usable row.operands.now) result.now ≡ true }

@@ -1,6 +1,6 @@
 // Instructions whose targets aren't known yet.
 ghost use Rattle.std.specs.Prelude.{◌+◌, ◌<◌};
-ghost use Rattle.eg_asm.specs.Room.{room_of};
+ghost use Rattle.eg_asm.specs.Inner.Room.{room_of};
 
 use crate::encoding::Jump;
 

@@ -1,9 +1,9 @@
 // Lines of a source.
 ghost use Rattle.std.specs.Prelude.{◌≡◌, ◌≤◌, length, option_map};
 ghost use Rattle.std.specs.Option.{option_copied};
-ghost use Rattle.eg_asm.specs.Rows.{form_in};
-ghost use Rattle.eg_asm.specs.Encodings.{encoded, encoding_shown, instruction_shown, told, line_shown};
-ghost use Rattle.eg_asm.specs.Encodings as tells;
+ghost use Rattle.eg_asm.specs.Inner.Rows.{form_in};
+ghost use Rattle.eg_asm.specs.Inner.Encodings.{encoded, encoding_shown, instruction_shown, told, line_shown};
+ghost use Rattle.eg_asm.specs.Inner.Encodings as tells;
 ghost use Rattle.eg_asm.specs.Reading.{values_of, texts_in, instruction_in, labelled, item_of_text, item_in};
 
 use crate::encoding::{Encoding, is_name};
@@ -30,7 +30,7 @@ pub(crate) fn read_line(line: &[u8]) -> Option<Line<'_>>
 }
 
 /// What the text of a line tells.
-#[tactic(auto, unfolding(crate::specs::Reading::item_of_text, crate::specs::Encodings::told))]
+#[tactic(auto, unfolding(crate::specs::Reading::item_of_text, crate::specs::Inner::Encodings::told))]
 fn read_text(text: &[u8]) -> Option<Line<'_>>
     ensures { option_map line_shown result ≡ option_map told (item_of_text text.now) }
 {
@@ -42,7 +42,7 @@ fn read_text(text: &[u8]) -> Option<Line<'_>>
 
 /// What a text tells that is neither empty nor a comment. `name` is what stands before a colon at the end of
 /// the text, if it ends with one.
-#[tactic(auto, unfolding(crate::specs::Reading::labelled, crate::specs::Encodings::told))]
+#[tactic(auto, unfolding(crate::specs::Reading::labelled, crate::specs::Inner::Encodings::told))]
 fn read_labelled<'a>(text: &'a [u8], name: Option<&'a [u8]>) -> Option<Line<'a>>
     ensures { option_map line_shown result ≡ option_map told (labelled text.now (option_copied name.entry)) }
 {

@@ -1,9 +1,9 @@
 // The words of a source, once all of its labels are known.
 ghost use Rattle.std.specs.Prelude.{◌≡◌, ◌+◌, pos, ◌-ℤ◌, ◌<◌, ◌≤◌, ◌*◌, Some, map, vec_len, IfSome};
 ghost use Rattle.eg_asm.specs.Words.{Labels, address_of, complement_of, distance_to};
-ghost use Rattle.eg_asm.specs.Encodings.{target_shown, instruction_shown};
-ghost use Rattle.eg_asm.specs.Kept.{placed_shown};
-ghost use Rattle.eg_asm.specs.Linking.{completed, earlier, linked_kept, HasLabels};
+ghost use Rattle.eg_asm.specs.Inner.Encodings.{target_shown, instruction_shown};
+ghost use Rattle.eg_asm.specs.Inner.Kept.{placed_shown};
+ghost use Rattle.eg_asm.specs.Inner.Linking.{completed, earlier, linked_kept, HasLabels};
 ghost use Rattle.eg_asm.specs.Reading.{IsAssembled};
 ghost use Rattle.eg_input.specs.declared.image.TheConstants.{MOST_WORDS};
 
@@ -39,7 +39,7 @@ impl<'a> Source<'a> {
     }
 
     /// The word of an instruction at this address, where its target is there and in range.
-    #[tactic(auto, unfolding(crate::specs::Linking::completed, crate::specs::Linking::jump_field))]
+    #[tactic(auto, unfolding(crate::specs::Inner::Linking::completed, crate::specs::Inner::Linking::jump_field))]
     fn word_of(&self, address: usize, instruction: &Instruction<'a>) -> Option<u16>
         requires { address < MOST_WORDS }
         ensures { (labels : Labels) → HasLabels self.now.labels labels →
@@ -104,7 +104,7 @@ fn complement_of(distance: i32, reach: u16) -> Option<u32>
 }
 
 /// The lower of two numbers of lines, the second of which may be missing.
-#[tactic(auto, unfolding(crate::specs::Linking::earlier))]
+#[tactic(auto, unfolding(crate::specs::Inner::Linking::earlier))]
 fn earlier(number: u32, other: Option<u32>) -> u32
     ensures { Some result ≡ earlier (Some number) other }
 {

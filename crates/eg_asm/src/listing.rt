@@ -10,7 +10,7 @@ ghost use Rattle.eg_asm.specs.Numerals.{numeral, integer};
 ghost use Rattle.eg_asm.specs.Sources.{IsSourceOf};
 ghost use Rattle.eg_asm.specs.Grammar.{text_of_value, text_of_values, line_of};
 ghost use Rattle.eg_asm.specs.Listings.{value_in, item_of, source_text, image_text};
-ghost use Rattle.eg_asm.specs.Usable.{is_usable, are_usable};
+ghost use Rattle.eg_asm.specs.Inner.Usable.{is_usable, are_usable};
 
 use crate::Operand;
 use crate::forms::form_of;

@@ -1,6 +1,6 @@
 // The operands of instructions.
 ghost use Rattle.std.specs.Prelude.{◌≡◌, ◌^◌, ◌<◌, [], true, Some};
-ghost use Rattle.eg_asm.specs.Usable.{is_usable};
+ghost use Rattle.eg_asm.specs.Inner.Usable.{is_usable};
 ghost use Rattle.eg_asm.specs.Words.{field_of};
 ghost use Rattle.eg_asm.specs.Listings.{value_in};
 

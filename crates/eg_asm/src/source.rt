@@ -1,9 +1,9 @@
 // What is kept of a source while its lines are read.
 ghost use Rattle.std.specs.Prelude.{◌≡◌, ◌⊎◌, ◌≤◌, [], option_map, vec_len, OnOk, IfErr};
 ghost use Rattle.eg_asm.specs.declared.fault.AsmFault.TheVariants as fault;
-ghost use Rattle.eg_asm.specs.Encodings.{told, told_with_room, line_shown, instruction_shown};
-ghost use Rattle.eg_asm.specs.Encodings as tells;
-ghost use Rattle.eg_asm.specs.Kept.{HoldsItems, Adds, ReadsMore, StopsAt};
+ghost use Rattle.eg_asm.specs.Inner.Encodings.{told, told_with_room, line_shown, instruction_shown};
+ghost use Rattle.eg_asm.specs.Inner.Encodings as tells;
+ghost use Rattle.eg_asm.specs.Inner.Kept.{HoldsItems, Adds, ReadsMore, StopsAt};
 ghost use Rattle.eg_asm.specs.Reading.{item_behind, refusal};
 ghost use Rattle.eg_input.specs.declared.image.TheConstants.{MOST_WORDS};
 
@@ -38,7 +38,7 @@ fn line_behind(words: usize, line: &[u8]) -> Option<Line<'_>>
 }
 
 /// What a line tells, where there is room for it behind this many instructions.
-#[tactic(auto, unfolding(crate::specs::Encodings::told_with_room))]
+#[tactic(auto, unfolding(crate::specs::Inner::Encodings::told_with_room))]
 fn with_room(words: usize, line: Line<'_>) -> Option<Line<'_>>
     ensures { option_map line_shown result ≡ told_with_room words (line_shown line.entry) }
 {

@@ -8,7 +8,7 @@ use Rattle.std.specs.Cmp.Lexicographic.{slice_cmp, nat_list_cmp_total}
 use Rattle.std.specs.FinMap.{get, get-from_entries}
 use Rattle.std.proofs.lemmas.Map.Text.{is_eq-slice_cmp}
 use Rattle.eg_base.specs.declared.named_files.NamedFile.{NamedFile}
-use Rattle.eg_base.specs.NamedFiles.{files_of, is_named}
+use Rattle.eg_base.specs.Inner.NamedFiles.{files_of, is_named}
 use Rattle.eg_base.specs.Outside.{Files}
 
 -- one file more in front, whether it is the one that is looked for or not

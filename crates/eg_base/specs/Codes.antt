@@ -1,5 +1,5 @@
--- Outside the headline. How the states of the stores in memory are written as numbers and lists. The
--- prover needs that for each type of which contracts see the values.
+-- How the states of the stores in memory are written as numbers and lists. The prover needs that for each
+-- type of which contracts see the values.
 use Rattle.std.specs.Prelude.{ℕ, List, refl}
 use Rattle.std.specs.Coded.{Coded, code_by, coded×, coded_ℕ, coded_list}
 use Rattle.std.specs.FinMap.{code}

@@ -1,4 +1,4 @@
--- Outside the headline. Counts that stop at the last value of a u64.
+-- Counts that stop at the last value of a u64.
 use Rattle.std.specs.Prelude.{ℕ, ◌+◌, ◌-◌, ◌^◌, min}
 
 abbrev pub next_count : ℕ → ℕ

@@ -1,5 +1,4 @@
--- Outside the headline. What contracts see of the stores and outputs in memory, and what a call makes of
--- it.
+-- What contracts see of the stores and outputs in memory, and what a call makes of it.
 use Rattle.std.specs.Prelude.{◌==◌, ◌||◌, ℕ, ◌/◌, Bool, List, ◌++◌, length, take, if◌then◌else◌, is_none}
 use Rattle.std.specs.List.{list_any}
 use Rattle.std.specs.FinMap.{get}

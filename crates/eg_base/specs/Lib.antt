@@ -3,5 +3,5 @@ pub mod Counts
 pub mod Fakes
 pub mod Streams
 pub mod Openers
-pub mod NamedFiles
 pub mod Codes
+pub mod Inner

@@ -1,4 +1,4 @@
--- Outside the headline. What contracts see of what opens files, and of a store over it.
+-- What contracts see of what opens files, and of a store over it.
 use Rattle.std.specs.Prelude.{◌≡◌, ℕ, List, Option, IfSome, IsSome}
 use Rattle.std.specs.FinMap.{get}
 use Rattle.eg_base.specs.Outside.{Files}

@@ -1,4 +1,4 @@
--- Outside the headline. What contracts see of an output over a stream.
+-- What contracts see of an output over a stream.
 use Rattle.std.specs.Prelude.{◌≡◌, ℕ, Bool, true, List, ◌++◌, Option, None, if◌then◌else◌}
 use Rattle.std.specs.Io.KnownBytes.{Appends}
 use Rattle.eg_base.specs.Outside.{ShownSink}

@@ -3,7 +3,7 @@ ghost use Rattle.std.specs.Prelude.{◌≡◌, ◌↔◌, reverse, Some, IsNone,
 ghost use Rattle.std.specs.List.{find};
 ghost use Rattle.std.specs.FinMap.{empty, get, insert};
 ghost use Rattle.eg_base.specs.declared.store.ReadRefusal.TheVariants.{Failed};
-ghost use Rattle.eg_base.specs.NamedFiles.{is_named};
+ghost use Rattle.eg_base.specs.Inner.NamedFiles.{is_named};
 ghost use Rattle.eg_base.specs.Outside.{Reads};
 
 use crate::{NoMemory, ReadRefusal};
@@ -31,7 +31,7 @@ impl Model for NamedFiles {
 
     ghost coded = { files_code };
 
-    ghost use Rattle.eg_base.specs.NamedFiles.{files_of};
+    ghost use Rattle.eg_base.specs.Inner.NamedFiles.{files_of};
 
     ghost view = { λ s. files_of s.files.items };
 }

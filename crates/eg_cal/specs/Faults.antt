@@ -1,4 +1,4 @@
--- Outside the headline. Faults of bytes that give no document, as faults of a calibration file.
+-- Faults of bytes that give no document, as faults of a calibration file.
 use Rattle.eg_cal.specs.declared.key.CalFault.{CalFault}
 use Rattle.eg_cal.specs.declared.key.CalFault.TheVariants as fault
 use Rattle.eg_toml.specs.declared.reading.DocumentFault.{DocumentFault}

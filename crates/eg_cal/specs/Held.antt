@@ -1,5 +1,4 @@
--- Outside the headline. What a key of a calibration file may hold (F20), in the words of TOML, and which
--- version has it.
+-- What a key of a calibration file may hold (F20), in the words of TOML, and which version has it.
 use Rattle.std.specs.Prelude.{◌≤◌, ℕ, All, Option, IsSome}
 use Rattle.std.specs.Bool.{⊤}
 use Rattle.toml.specs.Data.{Data, boolean, Members}

@@ -1,4 +1,4 @@
--- Outside the headline. The text of the reference file (C75).
+-- The text of the reference file (C75).
 use Rattle.std.specs.Prelude.{ℕ, List, ◌++◌, codes}
 
 -- examples/calibration/reference.toml

@@ -1,4 +1,4 @@
--- Outside the headline. The rules of a calibration file (F20, F21), without their order.
+-- The rules of a calibration file (F20, F21), without their order.
 use Rattle.std.specs.Prelude.{◌≡◌, ◌↔◌, ◌≤◌, ◌<◌, true, Some, Ok}
 use Rattle.toml.specs.Data.{Members}
 use Rattle.eg_torque.specs.Permit.{DoesNotFall}

@@ -20,7 +20,7 @@ use Rattle.eg_model.specs.EngineRuns.{EngineRun, rows_in_time}
 use Rattle.eg_campaign.specs.Plays.{run_with}
 use Rattle.eg_tick.proofs.CountLemmas.{counted_err}
 use Rattle.eg_campaign.specs.Groups.{AreTold, is_alike, group_of, firsts_after, groups_of, faultless, own_on, own_rows, rows_of_group, rows_shared, rows_made, told_on, told_by, written_over}
-use Rattle.eg_campaign.specs.Keys.{is_alike-equality}
+use Rattle.eg_campaign.specs.Inner.Keys.{is_alike-equality}
 use Rattle.eg_campaign.proofs.AlikeLemmas.{alike, faultless-same}
 use Rattle.eg_campaign.proofs.LeaderLemmas.{is_led, led-by_none, led-by_all, led-more, led-old}
 use Rattle.eg_campaign.proofs.OneGroup.{Counted, said, more, stopped, ended, next, wrote, written_to}

@@ -37,7 +37,7 @@ use Rattle.eg_plan.specs.declared.run_input.RunInput.{RunInput}
 use Rattle.eg_tick.specs.Counting.{count_with}
 use Rattle.eg_campaign.specs.Plays.{run_with}
 use Rattle.eg_campaign.specs.Groups.{faultless, checkpoint_ticks, checkpoint, own_under}
-use Rattle.eg_campaign.specs.Checkpoints.{run_under, PlaysInput, HasPlayed, rows_between, HasMade, IsKept, IsWantedAt, IsWantedFor, AreCheckpoints, IsSharedBy}
+use Rattle.eg_campaign.specs.Inner.Checkpoints.{run_under, PlaysInput, HasPlayed, rows_between, HasMade, IsKept, IsWantedAt, IsWantedFor, AreCheckpoints, IsSharedBy}
 use Rattle.eg_tick.proofs.CountLemmas.{front-take, counts_reverse}
 
 -- ---- counts ----

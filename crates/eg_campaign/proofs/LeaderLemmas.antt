@@ -11,7 +11,7 @@ use Rattle.std.proofs.lemmas.List.Sums.{fails_before_first, prefix_len_stops}
 use Rattle.eg_plan.specs.declared.run_input.RunInput.{RunInput}
 use Rattle.eg_campaign.specs.declared.key.GroupKey.{GroupKey}
 use Rattle.eg_campaign.specs.Groups.{AreAlike, is_alike, group_of, leader_in}
-use Rattle.eg_campaign.specs.Keys.{group_number, is_same_key, is_alike-equality}
+use Rattle.eg_campaign.specs.Inner.Keys.{group_number, is_same_key, is_alike-equality}
 use Rattle.eg_campaign.proofs.AlikeLemmas.{alike}
 use Rattle.eg_campaign.proofs.PlayLemmas.{mapped-at}
 

@@ -15,7 +15,7 @@ use Rattle.eg_tick.specs.Counting.{count_with, RanOutAmong}
 use Rattle.eg_model.specs.EngineRuns.{EngineRun}
 use Rattle.eg_campaign.specs.Plays.{run_with}
 use Rattle.eg_campaign.specs.Groups.{is_alike, faultless, written_over}
-use Rattle.eg_campaign.specs.Checkpoints.{IsSharedBy}
+use Rattle.eg_campaign.specs.Inner.Checkpoints.{IsSharedBy}
 use Rattle.eg_campaign.proofs.AlikeLemmas.{alike, faultless-same}
 use Rattle.eg_tick.proofs.CountLemmas.{counts_more, out_among, out_behind}
 use Rattle.eg_campaign.proofs.PlayLemmas.{map-more}

@@ -10,7 +10,7 @@ use Rattle.eg_plant.specs.declared.engine_kind.EngineKind.TheVariants as kind
 use Rattle.eg_plan.specs.declared.run_input.RunInput.{RunInput}
 use Rattle.eg_campaign.specs.Groups.{is_alike, leader_in, firsts_after, groups_of, checkpoint, own_under}
 use Rattle.eg_plan.specs.DriveNumbers.{mixed, row_number}
-use Rattle.eg_campaign.specs.Keys.{group_number}
+use Rattle.eg_campaign.specs.Inner.Keys.{group_number}
 
 -- a run of this name by this drive and on this engine, with a fault at this tick or without one
 run : ℕ → List DriveRow → EngineKind → Option Fault → RunInput

@@ -1,9 +1,8 @@
 pub mod Plays
 pub mod Groups
-pub mod Keys
-pub mod Checkpoints
 pub mod Texts
 pub mod Recording
+pub mod Inner
 pub use Rattle.eg_base.specs.Outside
 pub use Rattle.eg_model.specs.Engines
 pub use Rattle.eg_model.specs.EngineRuns

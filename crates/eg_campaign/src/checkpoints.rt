@@ -11,7 +11,7 @@ ghost use Rattle.eg_tick.specs.Counting.{count_with, AreCounted};
 ghost use Rattle.eg_plan.specs.Playable.{IsPlayable};
 ghost use Rattle.eg_campaign.specs.Plays.{IsPlayed, run_with};
 ghost use Rattle.eg_campaign.specs.Groups.{faultless, checkpoint_ticks, input_under, own_on};
-ghost use Rattle.eg_campaign.specs.Checkpoints.{run_under, PlaysInput, HasPlayed, HasMade, AreCheckpoints, IsSharedFor, IsWantedFor};
+ghost use Rattle.eg_campaign.specs.Inner.Checkpoints.{run_under, PlaysInput, HasPlayed, HasMade, AreCheckpoints, IsSharedFor, IsWantedFor};
 
 use crate::counting::count_none;
 use crate::wanted::{Wanted, is_wanted};

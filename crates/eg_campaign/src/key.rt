@@ -3,7 +3,7 @@ ghost use Rattle.std.specs.Prelude.{◌≡◌, fold};
 ghost use Rattle.std.specs.Hash as fed;
 ghost use Rattle.std.specs.Cmp as equal;
 ghost use Rattle.eg_plan.specs.DriveNumbers.{mixed};
-ghost use Rattle.eg_campaign.specs.Keys.{group_number, is_same_key, is_same_key-equality, is_same_key-hashed};
+ghost use Rattle.eg_campaign.specs.Inner.Keys.{group_number, is_same_key, is_same_key-equality, is_same_key-hashed};
 
 use crate::alike::is_alike;
 use eg_plan::{RunInput, mixed, number_of_drive};
@@ -56,7 +56,7 @@ impl<'a> Hash for GroupKey<'a> {
 }
 
 /// A number made of the engine, the image, the slice plan and the drive of a run.
-#[tactic(auto, unfolding(crate::specs::Keys::group_number))]
+#[tactic(auto, unfolding(crate::specs::Inner::Keys::group_number))]
 fn group_number(input: &RunInput) -> u64
     ensures { result ≡ group_number input.now }
 {

@@ -8,7 +8,7 @@ ghost use Rattle.eg_plan.specs.Playable.{IsPlayable};
 ghost use Rattle.eg_model.specs.EngineRuns.{rows_in_time};
 ghost use Rattle.eg_campaign.specs.Plays.{IsPlayed, run_with};
 ghost use Rattle.eg_campaign.specs.Groups.{AreTold, group_of, inputs_under, leader_in, rows_of_group, facts_by, told_by, written_over};
-ghost use Rattle.eg_campaign.specs.Checkpoints.{AreFor};
+ghost use Rattle.eg_campaign.specs.Inner.Checkpoints.{AreFor};
 ghost use Rattle.eg_campaign.specs.Recording.{WritesRecord};
 
 use crate::checkpoints::{Bench, bench, play_alone};

@@ -2,9 +2,9 @@
 ghost use Rattle.std.specs.Prelude.{◌≡◌, ◌<◌, All, length, map, Some, is_some, unwrap_or, IfOk, OnOk, if◌then◌else◌};
 ghost use Rattle.std.specs.HashMap.{get};
 ghost use Rattle.eg_campaign.specs.declared.key.GroupKey.{GroupKey as Key};
-ghost use Rattle.eg_campaign.specs.Keys.{is_same_key};
+ghost use Rattle.eg_campaign.specs.Inner.Keys.{is_same_key};
 ghost use Rattle.eg_campaign.specs.Groups.{leader_in};
-ghost use Rattle.eg_campaign.specs.Checkpoints.{AreCounts};
+ghost use Rattle.eg_campaign.specs.Inner.Checkpoints.{AreCounts};
 
 use crate::key::GroupKey;
 use eg_base::NoMemory;

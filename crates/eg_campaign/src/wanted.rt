@@ -4,7 +4,7 @@ ghost use Rattle.std.specs.Option.{option_copied};
 ghost use Rattle.eg_fault.specs.declared.class.Fault.{Fault as OfFault};
 ghost use Rattle.eg_fault.specs.Faults.{IsNoneOrValid, IsValid};
 ghost use Rattle.eg_plan.specs.Playable.{IsPlayable};
-ghost use Rattle.eg_campaign.specs.Checkpoints.{AreWantedIn, IsWantedFor};
+ghost use Rattle.eg_campaign.specs.Inner.Checkpoints.{AreWantedIn, IsWantedFor};
 
 use crate::checkpoints::CHECKPOINT_TICKS;
 use eg_fault::Fault;

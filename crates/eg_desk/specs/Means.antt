@@ -1,6 +1,6 @@
--- Outside the headline. What the numbers of `coverage` mean (F44). The numbers of a row hold of each run on
--- the bench by the calibration under a valid fault of the row's class. If faults can stay hidden, the
--- definitions below say which. Rows of a record stand newest first.
+-- What the numbers of `coverage` mean (F44). The numbers of a row hold of each run on the bench by the
+-- calibration under a valid fault of the row's class. If faults can stay hidden, the definitions below say
+-- which. Rows of a record stand newest first.
 use Rattle.std.specs.Prelude.{◌≡◌, ◌≢◌, ◌==◌, ◌⊎◌, ℕ, ◌+◌, ◌≤◌, ◌<◌, Bool, true, false, not, ◌&&◌, max, nat_le, List, [], ◌∷◌, ◌++◌, All, length, Option, Some, None}
 use Rattle.eg_answer.specs.Times.{feeds_to_confirm}
 use Rattle.eg_answer.specs.Periods.{place_of}

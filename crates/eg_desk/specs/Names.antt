@@ -1,4 +1,4 @@
--- Outside the headline. The name of the file at fault, and the note that has this name (F6).
+-- The name of the file at fault, and the note that has this name (F6).
 use Rattle.std.specs.Prelude.{◌≡◌, ◌⊎◌, ℕ, List, [], codes, Option, Some, None, unwrap_or}
 use Rattle.std.specs.Option.{MatchOption}
 use Rattle.eg_base.specs.Outside.{ShownStore, ShownSink}

@@ -1,4 +1,4 @@
--- Outside the headline. Words for runs that are worked out.
+-- Words for runs that are worked out.
 use Rattle.std.specs.Prelude.{ℕ, Option, Some}
 use Rattle.eg_num.specs.Drive.{DriveRow, driven}
 use Rattle.eg_fault.specs.declared.class.Class.{Class}

@@ -1,5 +1,5 @@
--- Outside the headline. What holds of each class of faults, and so of every fault: what it leaves alone,
--- the range that a held plate keeps, which word is flipped, and which module is left out or disturbed.
+-- What holds of each class of faults, and so of every fault: what it leaves alone, the range that a held
+-- plate keeps, which word is flipped, and which module is left out or disturbed.
 use Rattle.std.specs.Prelude.{ℕ, ◌≡◌, ◌≢◌, ◌==◌, ◌≤◌, ◌<◌, Bool, true, false, is_some, Option, Some, None, IfSome}
 use Rattle.eg_answer.specs.Modules.{AtMostOneIsDisturbed}
 use Rattle.eg_answer.specs.declared.modules.TheConstants.{CHECK, MODULES}

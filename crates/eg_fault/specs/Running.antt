@@ -1,5 +1,5 @@
--- Outside the headline. Which modules of level 2 run under a fault. At each tick all of them run, or none
--- does, or all but one; and where one is left out, it is the same one at each tick from the onset on.
+-- Which modules of level 2 run under a fault. At each tick all of them run, or none does, or all but one; and
+-- where one is left out, it is the same one at each tick from the onset on.
 use Rattle.std.specs.Prelude.{ℕ, ◌-◌, ◌≡◌, ◌≤◌, ◌<◌, ◌==◌, ◌⊎◌, nat_le, Bool, true, false, not, ◌&&◌, if◌then◌else◌, Option, Some, None}
 use Rattle.eg_answer.specs.Modules.{AllRun, NoneRuns, OthersRun}
 use Rattle.eg_answer.specs.declared.modules.TheConstants.{MODULES}

@@ -1,5 +1,4 @@
--- Outside the headline. What contracts see of the memory that refuses one store, and what a store makes of
--- it.
+-- What contracts see of the memory that refuses one store, and what a store makes of it.
 use Rattle.std.specs.Prelude.{ℕ, zero, suc, Bool, true, false, List, Option, Some, None}
 
 -- the words, and how many stores are still done before the one that is refused, or none once it was refused

@@ -1,4 +1,4 @@
--- Outside the headline. Level 1 as the unit keeps it, and when it is at rest.
+-- Level 1 as the unit keeps it, and when it is at rest.
 use Rattle.std.specs.Prelude.{◌≡◌, ℕ, ◌<◌, List}
 use Rattle.eg_word.specs.declared.instruction.Instruction.{Instruction}
 use Rattle.eg_word.specs.declared.registers.Registers.{Registers}

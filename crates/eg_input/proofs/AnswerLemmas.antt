@@ -8,7 +8,7 @@ use Rattle.std.proofs.lemmas.Option.{option_and_then_some}
 use Rattle.std.proofs.lemmas.Slice.Eq.{bytes_eq-Decides}
 use Rattle.eg_num.specs.Drive.{IsDrive}
 use Rattle.eg_input.specs.Fields.{number_of, truth_of}
-use Rattle.eg_input.specs.Plain.{BeginsWithField}
+use Rattle.eg_input.specs.Inner.Plain.{BeginsWithField}
 use Rattle.eg_input.proofs.FieldLemmas.{number_of-le}
 use Rattle.eg_input.proofs.CursorLemmas.{said-begins}
 use Rattle.eg_input.specs.Recording.{before_return, first_number}

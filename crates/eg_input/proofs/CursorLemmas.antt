@@ -9,7 +9,7 @@ use Rattle.std.proofs.lemmas.List.Sums.{position_or_len_is}
 use Rattle.std.proofs.lemmas.List.{take-append-drop, drop_more, get_or-take, length-take}
 use Rattle.std.proofs.lemmas.List.Elements.{All-nil, All-cons}
 use Rattle.eg_input.specs.Fields.{number_of, truth_of, found_now, first_field, first_said}
-use Rattle.eg_input.specs.Plain.{BeginsWithField}
+use Rattle.eg_input.specs.Inner.Plain.{BeginsWithField}
 use Rattle.eg_input.proofs.FieldLemmas.{number_of-le}
 
 -- whether a byte is the one that ends a field

@@ -27,7 +27,7 @@ use Rattle.eg_input.specs.declared.fault.TraceFault.{TraceFault}
 use Rattle.eg_input.specs.Fields.{number_of, number_at, truth_of, truth_at}
 use Rattle.eg_input.specs.DriveTrace.{drive_from, drive_at, drive_of, trace_headers}
 use Rattle.eg_input.specs.CheckFile.{check_row_of, check_header}
-use Rattle.eg_input.specs.Plain.{BeginsWithField, BeginsWithNumber, BeginsWithTruth, BeginsWithDrive, BeginsWithRow, BeginsWithHeader, records_below}
+use Rattle.eg_input.specs.Inner.Plain.{BeginsWithField, BeginsWithNumber, BeginsWithTruth, BeginsWithDrive, BeginsWithRow, BeginsWithHeader, records_below}
 use Rattle.eg_input.proofs.UnreadLemmas.{records_after-some, records_after-none}
 
 -- a digit is no mark of the format

@@ -12,7 +12,7 @@ use Rattle.csv.specs.declared.reader.Trim.TheVariants as trim
 use Rattle.std.proofs.lemmas.Bool.{cases_Bool, true≢false}
 use Rattle.std.proofs.lemmas.Option.{cond_some, same_Some}
 use Rattle.eg_input.specs.Records.{Record}
-use Rattle.eg_input.specs.Unread.{records_after, HasUnread}
+use Rattle.eg_input.specs.Inner.Unread.{records_after, HasUnread}
 
 -- where a byte ends a record, the state is between two records
 abbrev EndsBetween : State × Action → Type 0

@@ -3,9 +3,8 @@ pub mod Fields
 pub mod Rows
 pub mod CheckFile
 pub mod DriveTrace
-pub mod Unread
-pub mod Plain
 pub mod Images
 pub mod Recording
 pub mod Answering
+pub mod Inner
 pub use Rattle.eg_num.specs.Drive

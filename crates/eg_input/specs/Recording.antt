@@ -1,4 +1,4 @@
--- Outside the headline. How a line of a recording is read (F13). Its line feed is taken off already.
+-- How a line of a recording is read (F13). Its line feed is taken off already.
 use Rattle.std.specs.Prelude.{ℕ, zero, suc, ◌-◌, List, [], ◌∷◌, ◌++◌, length, drop, take, codes, Option, Some, None, option_map, if◌then◌else◌, false, slice_index}
 use Rattle.std.specs.Str.{byte, bytes_eq}
 use Rattle.eg_input.specs.Fields.{number_of, first_said, ◌>>=◌}

@@ -2,7 +2,7 @@
 ghost use Rattle.std.specs.Prelude.{◌≡◌, ◌==◌, ◌<◌, ◌≤◌, ◌+◌, length, take, drop, position, option_map, Some, IfSome, false};
 ghost use Rattle.std.specs.Char.{is_ascii_digit};
 ghost use Rattle.eg_input.specs.Fields.{found_now, first_said, number_of, truth_of};
-ghost use Rattle.eg_input.specs.Plain.{BeginsWithNumber, BeginsWithTruth};
+ghost use Rattle.eg_input.specs.Inner.Plain.{BeginsWithNumber, BeginsWithTruth};
 
 use crate::field::{number_of, truth_of};
 

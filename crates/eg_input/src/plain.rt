@@ -3,7 +3,7 @@ ghost use Rattle.std.specs.Prelude.{◌≡◌, IfSome, false};
 ghost use Rattle.std.specs.Char.{is_ascii_digit};
 ghost use Rattle.eg_input.specs.Records.{records_of};
 ghost use Rattle.eg_input.specs.Rows.{IsRead, rows_below, file_rows};
-ghost use Rattle.eg_input.specs.Plain.{BeginsWithDrive, records_below};
+ghost use Rattle.eg_input.specs.Inner.Plain.{BeginsWithDrive, records_below};
 
 use crate::TraceFault;
 use crate::cursor::first_number;

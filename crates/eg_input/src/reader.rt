@@ -4,7 +4,7 @@ ghost use Rattle.std.specs.Bool.{MatchBool};
 ghost use Rattle.csv.specs.Records.{fields_of};
 ghost use Rattle.eg_input.specs.Records.{Record, records_of};
 ghost use Rattle.eg_input.specs.Rows.{IsRead, rows_below, file_rows};
-ghost use Rattle.eg_input.specs.Unread.{HasUnread};
+ghost use Rattle.eg_input.specs.Inner.Unread.{HasUnread};
 ghost use Rattle.eg_input.specs.declared.fault.TraceFault.TheVariants as fault;
 
 use crate::TraceFault;

@@ -5,7 +5,7 @@ ghost use Rattle.eg_input.specs.Records.{Record, RowRule};
 ghost use Rattle.eg_input.specs.Rows.{is_header};
 ghost use Rattle.eg_input.specs.DriveTrace.{drive_at, drive_of, trace_headers};
 ghost use Rattle.eg_input.specs.CheckFile.{check_header, check_row_of};
-ghost use Rattle.eg_input.specs.Plain.{BeginsWithHeader, BeginsWithRow};
+ghost use Rattle.eg_input.specs.Inner.Plain.{BeginsWithHeader, BeginsWithRow};
 
 use crate::cursor::{first_number, first_truth};
 use crate::field::{has_fields, number_at, truth_at};

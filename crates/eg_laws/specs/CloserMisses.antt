@@ -1,5 +1,5 @@
--- Outside the headline. `eg_answer::miss_spacing` and `silent_misses_of` are exact: where misses may lie a tick
--- closer, or where one more may come, there is a history in which wrong answers cut before a trip.
+-- `eg_answer::miss_spacing` and `silent_misses_of` are exact: where misses may lie a tick closer, or where
+-- one more may come, there is a history in which wrong answers cut before a trip.
 use Rattle.std.specs.Prelude.{◌≡◌, ◌⊎◌, ℕ, zero, suc, ◌-◌, ◌*◌, ◌≤◌, true, false, List, [], ◌∷◌, All, length, Some}
 use Rattle.eg_num.specs.Drive.{DriveRow, driven}
 use Rattle.eg_answer.specs.Times.{HasMissSpacing, periods_between_misses, miss_spacing_of, silent_misses_of}

@@ -1,4 +1,4 @@
--- Outside the headline. C99: by when path 2 opens if no answer is good, by when a closed path is found in a
+-- C99: by when path 2 opens if no answer is good, by when a closed path is found in a
 -- test, and at which tick `answers` finds. Rows stand newest first, and the ticks of a span are counted from
 -- 0.
 use Rattle.std.specs.Prelude.{◌≡◌, ℕ, ◌+◌, ◌*◌, ◌≤◌, ◌==◌, Bool, true, false, not, ◌&&◌, ◌||◌, max, nat_le, List, [], ◌∷◌, ◌++◌, All, length, Option, Some, None, IfSome, if◌then◌else◌}

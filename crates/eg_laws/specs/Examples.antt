@@ -1,5 +1,5 @@
--- Outside the headline. Histories with the reference calibration, for the worked values of this crate and for
--- what C67 says of premises that are needed.
+-- Histories with the reference calibration, for the worked values of this crate and for what C67 says of
+-- premises that are needed.
 use Rattle.std.specs.Prelude.{◌≡◌, ℕ, ◌==◌, Bool, true, not, List, ◌∷◌, ◌++◌, map, replicate, reverse, Some, if◌then◌else◌}
 use Rattle.std.specs.List.{flat_map}
 use Rattle.eg_num.specs.Arithmetic.{estimate}

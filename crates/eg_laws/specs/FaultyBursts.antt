@@ -1,5 +1,5 @@
--- Outside the headline. C66: how many rows of a window can have true excess, whether it is confirmed or not.
--- Rows and ticks stand newest first.
+-- C66: how many rows of a window can have true excess, whether it is confirmed or not. Rows and ticks stand
+-- newest first.
 use Rattle.std.specs.Prelude.{◌≡◌, ℕ, ◌+◌, ◌*◌, ◌-◌, ◌≤◌, List, ◌++◌, All, length, map, take, min, Option}
 use Rattle.eg_num.specs.Arithmetic.{quotient_up}
 use Rattle.eg_num.specs.Windows.{WeightParts}

@@ -1,5 +1,4 @@
--- Outside the headline. C100: under which faults there are runs of every length in which no watch finds
--- anything.
+-- C100: under which faults there are runs of every length in which no watch finds anything.
 use Rattle.std.specs.Prelude.{ℤ, pos, negsuc, ◌+◌, ◌-◌, ◌/◌, ◌≤◌, ◌<◌, slice_index, ◌==◌, ◌||◌, nat_le, min, max, ◌⊎◌, ◌≡◌, ◌≢◌, ℕ, Bool, true, false, List, [], ◌∷◌, All, length, replicate, Some, if◌then◌else◌}
 use Rattle.eg_num.specs.Arithmetic.{estimate}
 use Rattle.eg_num.specs.Interpolation.{grid_at}

@@ -1,5 +1,5 @@
--- Outside the headline. C72: the least bound for stretches of excess under lapses is R + D, if D is at most
--- the period. The bound of `Lapses` in `eg_model` is greater, and holds of more calibrations.
+-- C72: the least bound for stretches of excess under lapses is R + D, if D is at most the period. The bound
+-- of `Lapses` in `eg_model` is greater, and holds of more calibrations.
 use Rattle.std.specs.Prelude.{◌≡◌, ℕ, ◌+◌, ◌-◌, ◌*◌, ◌≤◌, true, false, List, [], ◌++◌, ◌∷◌, All, replicate, Some}
 use Rattle.eg_num.specs.Arithmetic.{estimate}
 use Rattle.eg_num.specs.Drive.{DriveRow}

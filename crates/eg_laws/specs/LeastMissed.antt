@@ -1,6 +1,5 @@
--- Outside the headline. By the calibrations below `longest_missed` is the least number that bounds stretches of
--- excess under lapses, and is that of listed faults: there no wrong verdict is taken beyond those that confirm
--- in a row.
+-- By the calibrations below `longest_missed` is the least number that bounds stretches of excess under
+-- lapses, and is that of listed faults: there no wrong verdict is taken beyond those that confirm in a row.
 use Rattle.std.specs.Prelude.{◌≡◌, ◌⊎◌, ℕ, ◌+◌, ◌≤◌, ◌++◌, replicate}
 use Rattle.eg_answer.specs.Times.{feeds_to_confirm, reaction_of}
 use Rattle.eg_values.specs.Calibration.{CalibrationParts, IsAccepted}

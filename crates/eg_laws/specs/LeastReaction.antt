@@ -1,5 +1,5 @@
--- Outside the headline. C64: R is the least number for the reaction theorem, shown by a history with path 1
--- stuck closed in which the stages are still on R - 1 ticks after the confirmed excess.
+-- C64: R is the least number for the reaction theorem, shown by a history with path 1 stuck closed in which
+-- the stages are still on R - 1 ticks after the confirmed excess.
 use Rattle.std.specs.Prelude.{◌≡◌, ℕ, ◌+◌, ◌*◌, ◌-◌, ◌^◌, ◌≤◌, ◌<◌, Bool, true, false, List, [], ◌++◌, ◌∷◌, All, map, length, replicate, Some, if◌then◌else◌}
 use Rattle.eg_num.specs.Arithmetic.{estimate}
 use Rattle.eg_num.specs.Drive.{DriveRow, IsDrive}

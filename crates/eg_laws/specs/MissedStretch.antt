@@ -1,4 +1,4 @@
--- Outside the headline. C103: how long an excess may last under lapses.
+-- C103: how long an excess may last under lapses.
 use Rattle.std.specs.Prelude.{ℕ, ◌+◌, ◌*◌, ◌≤◌, List, length}
 use Rattle.eg_values.specs.Calibration.{CalibrationParts, IsAccepted}
 use Rattle.eg_values.specs.Excess.{ticks_to_confirm, BoundsMissed, longest_missed}

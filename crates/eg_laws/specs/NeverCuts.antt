@@ -1,4 +1,4 @@
--- Outside the headline. C101: throttles that never cut.
+-- C101: throttles that never cut.
 use Rattle.std.specs.Prelude.{◌≡◌, ℕ, zero, suc, ◌+◌, ◌≤◌, true, min, max, List, All, None}
 use Rattle.eg_num.specs.Arithmetic.{estimate}
 use Rattle.eg_num.specs.Interpolation.{curve_at}

@@ -1,5 +1,5 @@
--- Outside the headline. C99: when the watches of the four pairs find, under a fault that leaves level 2's
--- modules alone. Rows stand newest first.
+-- C99: when the watches of the four pairs find, under a fault that leaves level 2's modules alone. Rows stand
+-- newest first.
 use Rattle.std.specs.Prelude.{◌≡◌, ◌⊎◌, ℕ, ◌≤◌, Bool, true, false, not, ◌&&◌, List, [], ◌∷◌, ◌++◌, All, map, length, slice_index, Option, IfSome}
 use Rattle.std.specs.List.{list_any}
 use Rattle.eg_num.specs.Windows.{is_first}

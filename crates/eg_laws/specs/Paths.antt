@@ -1,5 +1,5 @@
--- Outside the headline. C44 and C41: when each path conducts, by the rows of a drive span and of a test span.
--- Rows stand newest first.
+-- C44 and C41: when each path conducts, by the rows of a drive span and of a test span. Rows stand newest
+-- first.
 use Rattle.std.specs.Prelude.{◌≡◌, ℕ, Bool, true, false, ◌&&◌, ◌||◌, nat_lt, List, [], ◌∷◌, ◌++◌, length, Option}
 use Rattle.std.specs.List.{list_any}
 use Rattle.eg_answer.specs.Times.{test_ticks_of}

@@ -1,4 +1,4 @@
--- Outside the headline. C96: how long the permitted torque can lie above the demand, and how far.
+-- C96: how long the permitted torque can lie above the demand, and how far.
 use Rattle.std.specs.Prelude.{◌≡◌, ℕ, ◌*◌, ◌-◌, ◌≤◌, true, Bool, nat_lt, List, ◌∷◌, ◌++◌, All, map, take, length, Some, None}
 use Rattle.std.specs.List.{list_all}
 use Rattle.eg_torque.specs.declared.ramp.TheConstants.{NO_RAMP}

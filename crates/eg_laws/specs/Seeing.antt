@@ -1,5 +1,4 @@
--- Outside the headline. C67: which cuts remain under several faults, where anything may be out of order at
--- any tick.
+-- C67: which cuts remain under several faults, where anything may be out of order at any tick.
 use Rattle.std.specs.Prelude.{◌≡◌, ℕ, ◌+◌, ◌≤◌, true, false, List, ◌++◌, All, length}
 use Rattle.eg_answer.specs.Times.{reaction_of}
 use Rattle.eg_values.specs.Calibration.{IsAccepted}

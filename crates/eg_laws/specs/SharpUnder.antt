@@ -1,5 +1,5 @@
--- Outside the headline. C99: under a fault that leaves alone what level 2 reads and does `torque` is as sharp
--- as without a fault, before the onset and after it. Rows stand newest first.
+-- C99: under a fault that leaves alone what level 2 reads and does `torque` is as sharp as without a fault,
+-- before the onset and after it. Rows stand newest first.
 use Rattle.std.specs.Prelude.{◌≡◌, ℕ, Bool, true, false, not, List, ◌∷◌, ◌++◌, map, Option, IfSome}
 use Rattle.eg_num.specs.Windows.{WeightParts, is_confirmed, is_first}
 use Rattle.eg_fault.specs.Faults.{effects, IsNoneOrValid}

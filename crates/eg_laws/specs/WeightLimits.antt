@@ -1,5 +1,5 @@
--- Outside the headline. C97: runs that differ in the limit of the torque's or the pairs' weights alone. Level
--- 1 sees no counter, since it can load no protected word.
+-- C97: runs that differ in the limit of the torque's or the pairs' weights alone. Level 1 sees no counter,
+-- since it can load no protected word.
 use Rattle.std.specs.Prelude.{◌≡◌, ℕ, false, List, All}
 use Rattle.eg_num.specs.Windows.{WeightParts}
 use Rattle.eg_num.specs.declared.watches.Watches.{Watches}

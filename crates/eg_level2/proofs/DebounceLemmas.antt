@@ -16,7 +16,8 @@ use Rattle.eg_level2.specs.declared.debounce.Fed.{Fed}
 use Rattle.eg_level2.specs.declared.debounce.Feeds.{Feeds}
 use Rattle.eg_level2.specs.Words.{Words, named, words_of, word_at, AreMirrored}
 use Rattle.eg_level2.specs.Modules.{pedal_bit, plate_bit, load_bit, speed_bit, torque_bit, feeds_now, counted, is_found, debounced, limits, trips, debounce_step, no_watches, finding}
-use Rattle.eg_level2.specs.Stores.{Store, both, both_where, counting, fed_of, feeds_of, found_of, fed_stores, is_still, Makes}
+use Rattle.eg_level2.specs.Inner.Stores.{counting, fed_of, feeds_of, found_of, fed_stores, is_still, Makes}
+use Rattle.eg_level2.specs.Stores.{Store, both, both_where}
 use Rattle.eg_level2.specs.Order.{counters_of, debounced_stores, debounce_stores}
 use Rattle.eg_level2.proofs.MakesLemmas.{in_turn, kept_both}
 

@@ -9,7 +9,8 @@ use Rattle.eg_guard.specs.Memory.{ShownMemory, KeepsMemory}
 use Rattle.eg_guard.proofs.KeepsLemmas.{keeps_then, keeps_done, keeps_refused, clash}
 use Rattle.eg_level2.specs.declared.step.Step.{Step}
 use Rattle.eg_level2.specs.Words.{word_at}
-use Rattle.eg_level2.specs.Stores.{Store, store, put, both, both_where, both_from, after_stores, outside, AreFirst, Makes, RunMakes}
+use Rattle.eg_level2.specs.Inner.Stores.{outside, Makes, RunMakes}
+use Rattle.eg_level2.specs.Stores.{Store, store, put, both, both_where, both_from, after_stores, AreFirst}
 use Rattle.eg_level2.proofs.StoreLemmas.{Mirror, both-mirror}
 
 -- ---- some stores, with more behind them ----

@@ -15,7 +15,8 @@ use Rattle.eg_level2.specs.declared.lookup.Lookup.{Lookup}
 use Rattle.eg_level2.specs.Inputs.{IsLookup}
 use Rattle.eg_level2.specs.Words.{named, word_at, words_of, in_order, is_set}
 use Rattle.eg_level2.specs.Modules.{marked, check_step, given_up, written, signed, closed_flow, answers_now, number_of, answer_of, react_step}
-use Rattle.eg_level2.specs.Stores.{Store, both, both_from, signalling, Makes}
+use Rattle.eg_level2.specs.Inner.Stores.{signalling, Makes}
+use Rattle.eg_level2.specs.Stores.{Store, both, both_from}
 use Rattle.eg_level2.specs.Order.{check_stores, given_up_stores, react_stores}
 
 -- module 0

@@ -9,7 +9,8 @@ use Rattle.eg_guard.specs.Regions.{both, allows, access, region_of}
 use Rattle.eg_guard.specs.Memory.{AreWords}
 use Rattle.eg_guard.proofs.AccessLemmas.{results-is, protected-is}
 use Rattle.eg_level2.specs.Words.{address_of, word_at, ChangeLaw, is_level2_own}
-use Rattle.eg_level2.specs.Stores.{put, outside}
+use Rattle.eg_level2.specs.Inner.Stores.{outside}
+use Rattle.eg_level2.specs.Stores.{put}
 
 -- where a word stands, by its number
 pub address_is : (number : ℕ) → ((number < 5) × (address_of number ≡ 2080 + number)) ⊎ ((5 ≤ number) × (address_of number ≡ 2091 + number))

@@ -13,7 +13,8 @@ use Rattle.eg_level2.specs.declared.phase.Phase.{Phase}
 use Rattle.eg_level2.specs.Words.{named, is_set, in_order}
 use Rattle.eg_level2.specs.Inputs.{Level2Parts, inputs_of, readings_of, asked_of, results_by, row_of}
 use Rattle.eg_level2.specs.Modules.{written, signed, module_step, pedal_step, permitted_step, actual_step, excess_step, pairs_step}
-use Rattle.eg_level2.specs.Stores.{Store, both, signal_of, signalling, Makes}
+use Rattle.eg_level2.specs.Inner.Stores.{signal_of, signalling, Makes}
+use Rattle.eg_level2.specs.Stores.{Store, both}
 use Rattle.eg_level2.specs.Order.{stores_of, signal_stores}
 
 -- a signal that is 0 where a trip stands is written as any other, since 0 is written there

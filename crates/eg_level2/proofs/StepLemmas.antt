@@ -13,7 +13,8 @@ use Rattle.eg_level2.specs.declared.step.Step.{Step}
 use Rattle.eg_level2.specs.Words.{Words, start, named, word_at, words_of, AreMirrored, AreWithin}
 use Rattle.eg_level2.specs.Inputs.{Level2Parts, Inputs, asked_of, inputs_of, row_of}
 use Rattle.eg_level2.specs.Modules.{feeds_now, check_step, given_up, pedal_bit, plate_bit, load_bit, speed_bit, torque_bit, counted, pedal_step, permitted_step, actual_step, excess_step, pairs_step, debounced, debounce_step, reacted, react_step, module_step, answer_after, order_after, no_watches, mirror_alone, found_by, step_of, finding, quiet_step}
-use Rattle.eg_level2.specs.Stores.{Store, RunMakes}
+use Rattle.eg_level2.specs.Inner.Stores.{RunMakes}
+use Rattle.eg_level2.specs.Stores.{Store}
 use Rattle.eg_level2.specs.Order.{check_stores, debounce_stores, react_stores, stores_of, given_up_stores}
 use Rattle.eg_level2.specs.Runs.{IsModuleRun}
 use Rattle.eg_level2.proofs.StoreLemmas.{same_outside}

@@ -5,7 +5,8 @@ use Rattle.eg_guard.specs.Regions.{region_of}
 use Rattle.std.proofs.lemmas.Bool.Decides.{eqb_tells}
 use Rattle.std.proofs.lemmas.Bool.{eq-eqb, ne_eqb}
 use Rattle.eg_level2.specs.Words.{word_at, AreMirrored, is_level2_own}
-use Rattle.eg_level2.specs.Stores.{put, store, both, after_stores, outside}
+use Rattle.eg_level2.specs.Inner.Stores.{outside}
+use Rattle.eg_level2.specs.Stores.{put, store, both, after_stores}
 
 -- words by their numbers, each of the first `count` with its complement
 abbrev pub MirrorBelow : ℕ → (ℕ → ℕ) → Type 0

@@ -1,6 +1,5 @@
--- Outside the headline. The program flow of level 2 over its ticks: which modules run, whether one is
--- disturbed, which number a right answer is, and what the token, the flow and the last tick tell between
--- two ticks.
+-- The program flow of level 2 over its ticks: which modules run, whether one is disturbed, which number a
+-- right answer is, and what the token, the flow and the last tick tell between two ticks.
 use Rattle.std.specs.Prelude.{◌≡◌, ℕ, ◌+◌, ◌%◌, ◌^◌, ◌≤◌, ◌<◌, ◌==◌, ◌⊎◌, Bool, true, false, ◌&&◌, ◌||◌, is_some, List, [], ◌∷◌, length, All}
 use Rattle.std.specs.List.{list_all}
 use Rattle.eg_answer.specs.Answers.{results_of, expected_of, answer_number}

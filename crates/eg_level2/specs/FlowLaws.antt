@@ -1,6 +1,5 @@
--- Outside the headline. The laws of the program flow: what a tick of level 2 makes of the token, the flow,
--- the last tick and the fold, and when the number that is sent is the expected one. They speak of level 2
--- alone, and of no fault.
+-- The laws of the program flow: what a tick of level 2 makes of the token, the flow, the last tick and the
+-- fold, and when the number that is sent is the expected one. They speak of level 2 alone, and of no fault.
 use Rattle.std.specs.Prelude.{◌≡◌, ℕ, suc, ◌+◌, ◌%◌, ◌^◌, ◌≤◌, ◌<◌, ◌==◌, ◌⊎◌, Bool, true, false, ◌&&◌, List, length, None, if◌then◌else◌}
 use Rattle.std.specs.List.{list_all}
 use Rattle.eg_answer.specs.declared.modules.TheConstants.{REACT}

@@ -1,4 +1,4 @@
--- Outside the headline. What goes into one run of a module besides level 2's words.
+-- What goes into one run of a module besides level 2's words.
 use Rattle.std.specs.Prelude.{◌≡◌, ◌≤◌, ℕ, ◌+◌, ◌%◌, List, [], ◌∷◌, length, slice_index}
 use Rattle.eg_guard.specs.declared.regions.TheConstants.{IN_PORTS, LINK}
 use Rattle.eg_sensor.specs.declared.readings.Readings.{Readings}

@@ -8,4 +8,5 @@ pub mod Runs
 pub mod Ticks
 pub mod Flow
 pub mod FlowLaws
+pub mod Inner
 pub use Rattle.eg_guard.specs.Memory

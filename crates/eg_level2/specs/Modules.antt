@@ -1,6 +1,5 @@
--- Outside the headline. The eight modules of level 2: what one run of a module makes of the words, what it
--- answers and orders, and which watches it finds. Each word after the run is one formula over the words
--- before it.
+-- The eight modules of level 2: what one run of a module makes of the words, what it answers and orders, and
+-- which watches it finds. Each word after the run is one formula over the words before it.
 use Rattle.std.specs.Prelude.{ℕ, ◌+◌, ◌*◌, ◌%◌, Bool, true, false, not, ◌&&◌, ◌||◌, ◌==◌, nat_lt, if◌then◌else◌, bit_or, bit_xor, Option, Some, None}
 use Rattle.eg_num.specs.Windows.{WeightParts}
 use Rattle.eg_num.specs.Counting.{fed}

@@ -1,5 +1,5 @@
--- Outside the headline. The stores of a run of a module, in their order, and what the words tell still where
--- memory ran out between two of them.
+-- The stores of a run of a module, in their order, and what the words tell still where memory ran out between
+-- two of them.
 use Rattle.std.specs.Prelude.{◌⊎◌, ℕ, ◌-◌, Bool, ◌==◌, if◌then◌else◌, List, ◌++◌, slice_index, IsTrue}
 use Rattle.eg_answer.specs.declared.rules.Rules.{Rules}
 use Rattle.eg_answer.specs.declared.modules.TheConstants.{CHECK, DEBOUNCE, REACT}

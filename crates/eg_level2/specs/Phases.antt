@@ -1,6 +1,6 @@
--- Outside the headline. What level 2 does in each phase: while the engine is driven, at ticks at which the
--- answer is sent and at others; and in a test span, at the tick at which path 1 is ordered open and at all
--- others, also at those after a test that failed.
+-- What level 2 does in each phase: while the engine is driven, at ticks at which the answer is sent and at
+-- others; and in a test span, at the tick at which path 1 is ordered open and at all others, also at those
+-- after a test that failed.
 use Rattle.std.specs.Prelude.{Bool, true, false}
 use Rattle.eg_level2.specs.declared.phase.Phase.{Phase}
 use Rattle.eg_level2.specs.declared.phase.Phase.TheVariants.{Quiet, Send, Test, TestOrder}

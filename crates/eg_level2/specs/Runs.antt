@@ -1,4 +1,4 @@
--- Outside the headline. What a run of a module by its number makes of a memory, and what it answers.
+-- What a run of a module by its number makes of a memory, and what it answers.
 use Rattle.std.specs.Prelude.{◌≡◌, ◌↔◌, ◌⊎◌, ℕ, Result, IsTrue, IsOk, OnOk, OnErr, IfOk}
 use Rattle.eg_guard.specs.Memory.{ShownMemory, AreWords, SameOutside}
 use Rattle.eg_level2.specs.declared.phase.Phase.{Phase}

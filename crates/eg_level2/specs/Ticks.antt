@@ -1,4 +1,4 @@
--- Outside the headline. One tick of level 2: its eight modules, one after another, each where it runs.
+-- One tick of level 2: its eight modules, one after another, each where it runs.
 use Rattle.std.specs.Prelude.{ℕ, zero, suc, Bool, ◌&&◌, ◌==◌, List, Option, None, if◌then◌else◌}
 use Rattle.eg_num.specs.declared.watches.Watches.{Watches}
 use Rattle.eg_sensor.specs.declared.readings.Readings.{Readings}

@@ -1,5 +1,4 @@
--- Outside the headline. The sixteen words that level 2 keeps in the guarded memory, each with its
--- complement.
+-- The sixteen words that level 2 keeps in the guarded memory, each with its complement.
 use Rattle.std.specs.Prelude.{◌≡◌, ◌≢◌, ℕ, ◌+◌, ◌-◌, ◌<◌, ◌≤◌, Bool, true, false, not, ◌==◌, nat_lt, if◌then◌else◌, List, [], ◌∷◌, slice_index, slice_set}
 use Rattle.eg_guard.specs.declared.regions.Region.{Region}
 use Rattle.eg_guard.specs.declared.regions.Region.TheVariants.{Results, Protected}

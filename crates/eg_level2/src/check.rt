@@ -2,7 +2,7 @@
 ghost use Rattle.std.specs.Prelude.{◌≡◌, ◌⊎◌, ◌+◌, ◌%◌, ◌==◌, OnOk, if◌then◌else◌};
 ghost use Rattle.eg_level2.specs.Words.{words_of, in_order, AreMirrored};
 ghost use Rattle.eg_level2.specs.Modules.{marked, check_step, given_up, mirror_alone, finding, quiet_step};
-ghost use Rattle.eg_level2.specs.Stores.{Makes, RunMakes};
+ghost use Rattle.eg_level2.specs.Inner.Stores.{Makes, RunMakes};
 ghost use Rattle.eg_level2.specs.Order.{check_stores, given_up_stores};
 
 use crate::Step;

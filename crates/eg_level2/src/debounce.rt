@@ -3,7 +3,7 @@ ghost use Rattle.std.specs.Prelude.{◌≡◌, ◌≤◌, ◌&&◌, nat_lt};
 ghost use Rattle.eg_sensor.specs.Readings.{has_bit};
 ghost use Rattle.eg_level2.specs.Words.{words_of, AreMirrored, AreWithin};
 ghost use Rattle.eg_level2.specs.Modules.{feeds_now, debounced, trips, finding};
-ghost use Rattle.eg_level2.specs.Stores.{Makes, RunMakes, fed_of, feeds_of, found_of, counting, fed_stores, is_still};
+ghost use Rattle.eg_level2.specs.Inner.Stores.{Makes, RunMakes, fed_of, feeds_of, found_of, counting, fed_stores, is_still};
 ghost use Rattle.eg_level2.specs.Order.{debounce_stores};
 
 use crate::step::no_watches;
@@ -71,7 +71,7 @@ fn feeds_now<M: Guarded>(memory: &M, phase: Phase) -> bool
 
 /// Whether all counters stand at 0 and nothing bad is fed, so that no feed changes one. Mostly it is so.
 #[inline(always)]
-#[tactic(auto, unfolding(crate::specs::Words::named, crate::specs::Stores::is_still))]
+#[tactic(auto, unfolding(crate::specs::Words::named, crate::specs::Inner::Stores::is_still))]
 fn is_still<M: Guarded>(memory: &M) -> bool
     ensures { result ≡ is_still (words_of (M.shows memory.now).words) }
 {
@@ -85,7 +85,7 @@ fn is_still<M: Guarded>(memory: &M) -> bool
 }
 
 /// One feed of a counter.
-#[tactic(auto, unfolding(crate::specs::Stores::fed_of, crate::specs::Modules::is_found))]
+#[tactic(auto, unfolding(crate::specs::Inner::Stores::fed_of, crate::specs::Modules::is_found))]
 fn feed(weights: &Weights, value: u16, bad: bool) -> Fed
     requires { value ≤ weights.now.limit }
     ensures { result ≡ fed_of weights.now value bad }
@@ -177,7 +177,7 @@ fn keep_counters<M: Guarded>(memory: &mut M, feeds: &Feeds) -> Result<(), NoMemo
 
 impl Feeds {
     /// Whether a watch is found that trips: any of the five but `pedal`.
-    #[tactic(auto, unfolding(crate::specs::Modules::trips, crate::specs::Stores::found_of))]
+    #[tactic(auto, unfolding(crate::specs::Modules::trips, crate::specs::Inner::Stores::found_of))]
     fn trips(&self) -> bool
         ensures { result ≡ trips (found_of self.now) }
     {
@@ -185,7 +185,7 @@ impl Feeds {
     }
 
     /// The watches that are found.
-    #[tactic(auto, unfolding(crate::specs::Modules::no_watches, crate::specs::Stores::found_of))]
+    #[tactic(auto, unfolding(crate::specs::Modules::no_watches, crate::specs::Inner::Stores::found_of))]
     fn found(&self) -> Watches
         ensures { result ≡ found_of self.now }
     {

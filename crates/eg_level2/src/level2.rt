@@ -5,7 +5,8 @@ ghost use Rattle.eg_guard.specs.Memory.{AreWords, SameOutside};
 ghost use Rattle.eg_level2.specs.Words.{ChangeLaw, word_at, words_of, AreMirrored, AreWithin, is_level2_own, start};
 ghost use Rattle.eg_level2.specs.Inputs.{AreParts, IsLookup, IsPrepared, inputs_of, asked_of};
 ghost use Rattle.eg_level2.specs.Modules.{quiet_step};
-ghost use Rattle.eg_level2.specs.Stores.{AreFirst, RunMakes};
+ghost use Rattle.eg_level2.specs.Inner.Stores.{RunMakes};
+ghost use Rattle.eg_level2.specs.Stores.{AreFirst};
 ghost use Rattle.eg_level2.specs.Order.{reset_stores, stores_of};
 ghost use Rattle.eg_level2.specs.Runs.{IsModuleRun};
 

@@ -2,7 +2,7 @@
 ghost use Rattle.std.specs.Prelude.{◌≡◌, ◌+◌, ◌*◌, ◌==◌, if◌then◌else◌, Some, None};
 ghost use Rattle.eg_level2.specs.Words.{words_of};
 ghost use Rattle.eg_level2.specs.Modules.{marked, closed_flow, opens_now, answers_now, react_step, reacted};
-ghost use Rattle.eg_level2.specs.Stores.{RunMakes};
+ghost use Rattle.eg_level2.specs.Inner.Stores.{RunMakes};
 ghost use Rattle.eg_level2.specs.Order.{react_stores};
 
 use crate::step::no_watches;

@@ -7,7 +7,7 @@ ghost use Rattle.eg_answer.specs.Folds.{mixed};
 ghost use Rattle.eg_torque.specs.Ramp.{ramped as torque_ramped};
 ghost use Rattle.eg_level2.specs.Words.{word_at, words_of};
 ghost use Rattle.eg_level2.specs.Inputs.{IsLookup, readings_of};
-ghost use Rattle.eg_level2.specs.Stores.{Makes, signal_of, signalling};
+ghost use Rattle.eg_level2.specs.Inner.Stores.{Makes, signal_of, signalling};
 
 use crate::Lookup;
 use crate::ports::readings;
@@ -24,7 +24,7 @@ use eg_torque::ramped;
 /// mille; the permitted torque and the actual torque, in tenths of Nm; 1 where the actual torque is an excess
 /// over the permitted torque, else 0; the bits of the pairs that disagree.
 #[inline(always)]
-#[tactic(auto, unfolding(crate::specs::Stores::signal_of))]
+#[tactic(auto, unfolding(crate::specs::Inner::Stores::signal_of))]
 pub(crate) fn signal<M: Guarded>(number: u8, memory: &M, rules: &Rules, lookup: &Lookup) -> u16
     requires { IsLookup rules.now lookup.now }
     ensures { result ≡ signal_of rules.now (readings_of (M.shows memory.now).words) number

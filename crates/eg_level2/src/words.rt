@@ -3,7 +3,8 @@ ghost use Rattle.std.specs.Prelude.{◌≡◌, ◌↔◌, ◌<◌, IsTrue, OnOk,
 ghost use Rattle.eg_guard.specs.Memory.{KeepsMemory};
 ghost use Rattle.eg_answer.specs.declared.words.TheConstants.{MIRRORED_WORDS, STORED_WORDS};
 ghost use Rattle.eg_level2.specs.Words.{address_of, word_at, AreMirrored, is_set};
-ghost use Rattle.eg_level2.specs.Stores.{Makes, put, both, both_where, both_from, outside};
+ghost use Rattle.eg_level2.specs.Inner.Stores.{Makes, outside};
+ghost use Rattle.eg_level2.specs.Stores.{put, both, both_where, both_from};
 
 use eg_answer::MIRRORED_WORDS;
 use eg_base::NoMemory;

@@ -1,4 +1,4 @@
--- Outside the headline. What is shown of the lines of a reader that is read from the first `next` on.
+-- What is shown of the lines of a reader that is read from the first `next` on.
 use Rattle.std.specs.Prelude.{ℕ, false, List, Option, Some, None, option_map, is_some, if◌then◌else◌}
 use Rattle.eg_lines.specs.Lines.{ShownLines, lines_in}
 use Rattle.eg_lines.specs.Readers.{ReaderState}

@@ -1,5 +1,5 @@
--- Outside the headline. What contracts see of a source of lines, which lies outside the program: what it
--- shows at a moment, and how a call changes that.
+-- What contracts see of a source of lines, which lies outside the program: what it shows at a moment, and how
+-- a call changes that.
 use Rattle.std.specs.Prelude.{◌≡◌, ◌==◌, ℕ, List, [], ◌∷◌, ◌++◌, take, Bool, if◌then◌else◌, Option, option_map, IfSome}
 use Rattle.std.specs.List.{onto_first}
 

@@ -1,5 +1,4 @@
--- Outside the headline. What a source of lines over a reader has left, and what it makes of the pieces that
--- the reader shows.
+-- What a source of lines over a reader has left, and what it makes of the pieces that the reader shows.
 use Rattle.std.specs.Prelude.{◌≡◌, ℕ, Bool, true, false, List, [], ◌∷◌, ◌++◌, take, drop, Option, Some, None, option_map, IfSome, if◌then◌else◌}
 use Rattle.eg_lines.specs.Lines.{ShownLines, lines_in}
 use Rattle.eg_lines.specs.declared.read_lines.Piece.{Piece}

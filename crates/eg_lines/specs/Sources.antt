@@ -1,4 +1,4 @@
--- Outside the headline. What contracts see of the sources of lines in memory, and what a call makes of it.
+-- What contracts see of the sources of lines in memory, and what a call makes of it.
 use Rattle.std.specs.Prelude.{◌≡◌, ◌==◌, ℕ, Bool, true, false, List, [], ◌∷◌, ◌++◌, take, Option, if◌then◌else◌}
 use Rattle.std.specs.Option.{option_map_or}
 use Rattle.eg_base.specs.Counts.{next_count}

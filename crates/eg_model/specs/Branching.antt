@@ -1,6 +1,5 @@
--- Outside the headline. Runs that branch. A fault does nothing before its onset. So up to the onset a run
--- under a fault is the run without one, and a program that has made those ticks without the fault can go on
--- from there under it.
+-- Runs that branch. A fault does nothing before its onset. So up to the onset a run under a fault is the run
+-- without one, and a program that has made those ticks without the fault can go on from there under it.
 use Rattle.std.specs.Prelude.{◌≡◌, ℕ, ◌≤◌, List, length, Option, None, IfSome}
 use Rattle.eg_fault.specs.declared.class.Fault.{Fault}
 use Rattle.eg_model.specs.History.{Setting, Entry}

@@ -1,5 +1,5 @@
--- Outside the headline. Runs on the bench that are worked out: images of level 1, drives, and runs of them
--- with the reference calibration.
+-- Runs on the bench that are worked out: images of level 1, drives, and runs of them with the reference
+-- calibration.
 use Rattle.std.specs.Prelude.{ℕ, negsuc, ◌==◌, Bool, true, false, is_some, List, [], ◌∷◌, ◌++◌, map, filter, reverse, length, replicate, codes, Option, Some, None}
 use Rattle.eg_num.specs.Drive.{DriveRow, driven}
 use Rattle.eg_answer.specs.declared.marks.AnswerMark.{AnswerMark}

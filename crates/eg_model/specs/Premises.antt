@@ -1,6 +1,6 @@
--- Outside the headline. What the laws of a run speak of, and their two premises on a history: what is out of
--- order at its ticks comes of the fault (`Follows`), and what comes in at its ticks is proper (`AreProper`):
--- drive rows keep their limits, and the engine keeps the laws of engines. Nothing is asked of level 1.
+-- What the laws of a run speak of, and their two premises on a history: what is out of order at its ticks
+-- comes of the fault (`Follows`), and what comes in at its ticks is proper (`AreProper`): drive rows keep
+-- their limits, and the engine keeps the laws of engines. Nothing is asked of level 1.
 use Rattle.std.specs.Prelude.{◌≡◌, ℕ, ◌+◌, Bool, true, false, List, [], ◌∷◌, map, length, Option}
 use Rattle.eg_num.specs.Drive.{IsDrive}
 use Rattle.eg_num.specs.Windows.{is_confirmed}

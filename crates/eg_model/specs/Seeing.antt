@@ -1,5 +1,5 @@
--- Outside the headline. A tick at which level 2 sees a true excess, if there is one: all of its modules run,
--- nothing disturbs them, and of each pair that it judges the torque by one track reads rightly.
+-- A tick at which level 2 sees a true excess, if there is one: all of its modules run, nothing disturbs them,
+-- and of each pair that it judges the torque by one track reads rightly.
 use Rattle.std.specs.Prelude.{◌≡◌, ◌⊎◌, ℕ, true, None}
 use Rattle.eg_sensor.specs.declared.tracks.TheConstants.{PEDAL_1, PEDAL_2, LOAD_1, LOAD_2, SPEED_1, SPEED_2, BRAKE_1, BRAKE_2}
 use Rattle.eg_fault.specs.Effects.{Effects}

@@ -1,6 +1,6 @@
--- Outside the headline. The sharp cut: while nothing is out of order outside level 1, the stages are on
--- exactly until the tick at which the full-efficiency excess is first confirmed, that tick included. So a
--- drive span in which that excess is never confirmed is never cut off.
+-- The sharp cut: while nothing is out of order outside level 1, the stages are on exactly until the tick at
+-- which the full-efficiency excess is first confirmed, that tick included. So a drive span in which that
+-- excess is never confirmed is never cut off.
 use Rattle.std.specs.Prelude.{◌≡◌, not, List, [], ◌∷◌}
 use Rattle.eg_num.specs.Windows.{is_confirmed}
 use Rattle.eg_values.specs.Calibration.{IsAccepted}

@@ -1,5 +1,5 @@
--- Outside the headline. A span of a run is a history by itself: what is true of its ticks follows from these
--- ticks alone. So each law of histories holds of each span of a run.
+-- A span of a run is a history by itself: what is true of its ticks follows from these ticks alone. So each
+-- law of histories holds of each span of a run.
 use Rattle.std.specs.Prelude.{◌≡◌, ℕ, ◌+◌, List, length}
 use Rattle.eg_model.specs.History.{Setting, Entry, Drive}
 use Rattle.eg_model.specs.Moments.{moments_in}

@@ -1,6 +1,5 @@
--- Outside the headline. The start-up test of the shut-off paths: where nothing is out of order it is
--- passed, for every accepted calibration. And a run whose drive rows never reset the unit is one drive
--- span.
+-- The start-up test of the shut-off paths: where nothing is out of order it is passed, for every accepted
+-- calibration. And a run whose drive rows never reset the unit is one drive span.
 use Rattle.std.specs.Prelude.{◌≡◌, true, false, List, ◌∷◌, All, length}
 use Rattle.eg_answer.specs.Times.{test_ticks_of}
 use Rattle.eg_values.specs.Calibration.{IsAccepted}

@@ -1,4 +1,4 @@
--- Outside the headline. How a monitoring module is read from what the program holds.
+-- How a monitoring module is read from what the program holds.
 use Rattle.std.specs.Prelude.{◌≡◌, ◌%◌, List, map, length, reverse}
 use Rattle.eg_answer.specs.Periods.{HeardAnswer}
 use Rattle.eg_module.specs.Monitoring.{MonitorParts, IsMonitor}

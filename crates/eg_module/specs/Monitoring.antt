@@ -1,4 +1,4 @@
--- Outside the headline. What the monitoring module keeps (C33, C34), and which verdicts it stands for.
+-- What the monitoring module keeps (C33, C34), and which verdicts it stands for.
 use Rattle.std.specs.Prelude.{◌≡◌, ℕ, ◌≤◌, ◌<◌, List, [], ◌∷◌, All, length, map}
 use Rattle.eg_num.specs.Windows.{AreWeights}
 use Rattle.eg_num.specs.Counting.{StandsFor}

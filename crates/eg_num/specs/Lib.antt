@@ -4,4 +4,4 @@ pub mod Drive
 pub mod Windows
 pub mod Counting
 pub mod Places
-pub mod PedalWord
+pub mod Inner

@@ -1,6 +1,6 @@
 // The pedal of a drive row and the two truth values beside it, in one word.
 ghost use Rattle.std.specs.Prelude.{◌≡◌, ◌≤◌};
-ghost use Rattle.eg_num.specs.PedalWord.{PedalParts};
+ghost use Rattle.eg_num.specs.Inner.PedalWord.{PedalParts};
 
 use std::marker::Model;
 
@@ -12,7 +12,7 @@ pub(crate) struct PedalWord {
 }
 
 impl Model for PedalWord {
-    ghost use Rattle.eg_num.specs.PedalWord.{PedalParts, parts_of, word_of, word_of-parts_of};
+    ghost use Rattle.eg_num.specs.Inner.PedalWord.{PedalParts, parts_of, word_of, word_of-parts_of};
 
     ghost Value = { PedalParts };
 

@@ -1,4 +1,4 @@
--- Outside the headline. What comes of a line that is read, and of a line that is put.
+-- What comes of a line that is read, and of a line that is put.
 use Rattle.std.specs.Prelude.{◌≡◌, ◌⊎◌, ℕ, List, [], ◌∷◌, ◌++◌, take, true, false, Bool, IsTrue, Result, Ok, Err, option_map, IfSome}
 use Rattle.eg_base.specs.Outside.{ShownSink, Rose, Appends, AppendsPrefix}
 use Rattle.eg_lines.specs.Lines.{ShownLines}

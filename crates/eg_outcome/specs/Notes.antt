@@ -1,4 +1,4 @@
--- Outside the headline. The note on how a call ended (F6). A call that ends Done has no note.
+-- The note on how a call ended (F6). A call that ends Done has no note.
 use Rattle.std.specs.Prelude.{ℕ, List, [], ◌++◌, codes, decimal, IsTrue}
 use Rattle.eg_base.specs.Outside.{ShownSink, Rose, Appends, AppendsPrefix}
 use Rattle.eg_input.specs.declared.fault.TraceFault.{TraceFault}

@@ -1,4 +1,4 @@
--- Outside the headline. The role of the file that an outcome speaks of, if it speaks of one (F6).
+-- The role of the file that an outcome speaks of, if it speaks of one (F6).
 use Rattle.std.specs.Prelude.{Option, Some, None}
 use Rattle.eg_outcome.specs.declared.outcome.Outcome.{Outcome}
 use Rattle.eg_outcome.specs.declared.outcome.Outcome.TheVariants as outcome

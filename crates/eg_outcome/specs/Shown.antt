@@ -1,5 +1,5 @@
--- Outside the headline. How a note shows the name of a file (F6). In UTF-8, U+0080 to U+009F are the byte 194
--- and one of 128 to 159 behind it.
+-- How a note shows the name of a file (F6). In UTF-8, U+0080 to U+009F are the byte 194 and one of 128 to 159
+-- behind it.
 use Rattle.std.specs.Prelude.{◌≡◌, ℕ, ◌≤◌, ◌==◌, Bool, ◌&&◌, ◌||◌, nat_lt, nat_le, IsTrue, List, [], ◌∷◌, ◌++◌, codes, get_or, if◌then◌else◌, Result, OnOk, OnErr}
 use Rattle.hex.specs.Hex.{encode_lower}
 use Rattle.eg_base.specs.Outside.{ShownSink, Rose, Appends, AppendsPrefix}

@@ -1,4 +1,4 @@
--- Outside the headline. The exit status of each outcome (F3).
+-- The exit status of each outcome (F3).
 use Rattle.std.specs.Prelude.{ℕ}
 use Rattle.eg_outcome.specs.declared.outcome.Outcome.{Outcome}
 use Rattle.eg_outcome.specs.declared.outcome.Outcome.TheVariants as outcome

@@ -1,4 +1,4 @@
--- Outside the headline. Which files a command may read (F8).
+-- Which files a command may read (F8).
 use Rattle.std.specs.Prelude.{◌||◌, ℕ, Bool, List, bytes_eq}
 use Rattle.std.specs.List.{list_any}
 

@@ -1,4 +1,4 @@
--- Outside the headline. What a memory in pages consists of.
+-- What a memory in pages consists of.
 use Rattle.std.specs.Prelude.{◌≡◌, ℕ, List, length, map}
 use Rattle.std.specs.List.{All, concat}
 use Rattle.std.specs.Rc.{rc_value}

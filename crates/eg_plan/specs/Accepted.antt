@@ -1,5 +1,5 @@
--- Outside the headline. Which documents are accepted as campaigns (F15, F16), in the words of TOML and
--- without the order of the checks.
+-- Which documents are accepted as campaigns (F15, F16), in the words of TOML and without the order of the
+-- checks.
 use Rattle.std.specs.Prelude.{◌≡◌, ◌↔◌, ◌≤◌, true, ℕ, List, codes, map, Option, Some, Ok, Err}
 use Rattle.std.specs.Bool.{⊤}
 use Rattle.std.specs.List.{AllByRecursion, AllPairs}

@@ -1,4 +1,4 @@
--- Outside the headline. A drive as one number, by which equal drives are found.
+-- A drive as one number, by which equal drives are found.
 use Rattle.std.specs.Prelude.{ℕ, ◌+◌, ◌*◌, ◌%◌, ◌^◌, if◌then◌else◌, bit_xor}
 use Rattle.std.specs.Int.{w64, rotate_left}
 use Rattle.eg_num.specs.Drive.{DriveRow}

@@ -1,4 +1,4 @@
--- Outside the headline. Which inputs may be played.
+-- Which inputs may be played.
 use Rattle.std.specs.Prelude.{◌≤◌, length, All}
 use Rattle.eg_guard.specs.declared.regions.TheConstants.{DATA as CODE_END}
 use Rattle.eg_num.specs.Drive.{IsDrive}

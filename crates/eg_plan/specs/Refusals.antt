@@ -1,4 +1,4 @@
--- Outside the headline. Faults of bytes that give no document, as refusals of a campaign file.
+-- Faults of bytes that give no document, as refusals of a campaign file.
 use Rattle.eg_plan.specs.declared.key.CampaignFault.{CampaignFault}
 use Rattle.eg_plan.specs.declared.key.CampaignFault.TheVariants as fault
 use Rattle.eg_toml.specs.declared.reading.DocumentFault.{DocumentFault}

@@ -1,4 +1,4 @@
--- Outside the headline. What the runs of every accepted campaign keep (F15, F16), in plain rules.
+-- What the runs of every accepted campaign keep (F15, F16), in plain rules.
 use Rattle.std.specs.Prelude.{◌≡◌, ◌⊎◌, ◌≤◌, ℕ, List, length, All, slice_index}
 use Rattle.std.specs.List.{sum, AllPairs}
 use Rattle.eg_toml.specs.Held.{AreMany}

@@ -7,7 +7,7 @@ ghost use Rattle.eg_toml.specs.Arrays.{count};
 ghost use Rattle.eg_toml.specs.Refusals.{IsRead, Reads, seen};
 ghost use Rattle.eg_plan.specs.declared.key.CampaignFault.TheVariants.{Memory};
 ghost use Rattle.eg_plan.specs.Runs.{all_items, is_table, run_of, run_refusal};
-ghost use Rattle.eg_plan.specs.Names.{AreNamesOf};
+ghost use Rattle.eg_plan.specs.Inner.Names.{AreNamesOf};
 ghost use Rattle.eg_plan.specs.Campaign.{members_in, runs_of, runs_refusal, run_array, run_items, are_runs, is_top_known, refusal_of, campaign_of};
 ghost use Rattle.eg_plan.specs.Rules.{AreRuns};
 

@@ -8,7 +8,7 @@ ghost use Rattle.eg_toml.specs.Refusals.{Checks, Reads};
 ghost use Rattle.eg_plan.specs.declared.key.CampaignFault.TheVariants.{Memory};
 ghost use Rattle.eg_plan.specs.Faults.{fault_of};
 ghost use Rattle.eg_plan.specs.Runs.{all_items, is_table, array_refusal, faults_refusal, fault_table, table_refusal, run_names, table_is_known, is_all_known, run_of, run_refusal};
-ghost use Rattle.eg_plan.specs.Names.{AreNamesOf};
+ghost use Rattle.eg_plan.specs.Inner.Names.{AreNamesOf};
 
 use crate::engine::engine;
 use crate::fault::{fault_in, has_own_names};

@@ -1,4 +1,4 @@
--- Outside the headline. What a gasoline engine keeps from step to step.
+-- What a gasoline engine keeps from step to step.
 use Rattle.std.specs.Prelude.{◌≡◌, ℕ, ◌≤◌}
 use Rattle.eg_num.specs.Arithmetic.{estimate}
 use Rattle.eg_num.specs.Interpolation.{curve_at}

@@ -1,5 +1,5 @@
--- Outside the headline. What `margins` tells by one limit of the torque's weights says by which lower limits
--- `torque` finds something (C98).
+-- What `margins` tells by one limit of the torque's weights says by which lower limits `torque` finds
+-- something (C98).
 use Rattle.std.specs.Prelude.{◌↔◌, ℕ, ◌+◌, ◌≤◌, ◌<◌}
 use Rattle.eg_values.specs.Calibration.{IsAccepted}
 use Rattle.eg_record.specs.declared.watch.Watch.TheVariants as watch

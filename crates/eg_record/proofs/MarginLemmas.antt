@@ -9,7 +9,7 @@ use Rattle.eg_record.specs.declared.margins.MarginTally.{MarginTally}
 use Rattle.eg_record.specs.Detection.{is_trip}
 use Rattle.eg_record.specs.Spans.{this_span}
 use Rattle.eg_record.specs.Margins.{Weighed, rows_in, is_driven, is_tripped, is_driven_untripped, weighed_where, greatest_weight, surplus_at, greater_than, greatest_integer, surplus_of, margins_of, IsMarginTallyOf}
-use Rattle.eg_record.specs.RowMore.{greater_counters}
+use Rattle.eg_record.specs.Inner.RowMore.{greater_counters}
 
 -- ---- rows of drive spans, and rows that trip ----
 

@@ -12,7 +12,7 @@ use Rattle.eg_record.specs.Stages.{last_on}
 use Rattle.eg_record.specs.Excess.{true_excess, is_excess_confirmed}
 use Rattle.eg_record.specs.Facts.{reaction_by, off_from}
 use Rattle.eg_record.specs.Reactions.{confirmed_in, end_of, reaction_in_span, followed_in, no_reactions, greater, less, combined, reactions_in, reactions_of_spans, reactions_of}
-use Rattle.eg_record.specs.RowMore.{span_reactions, ended_at, gone_on, spans_with}
+use Rattle.eg_record.specs.Inner.RowMore.{span_reactions, ended_at, gone_on, spans_with}
 use Rattle.eg_record.specs.Tallies.{AreSpansOf}
 use Rattle.eg_record.proofs.SpanLemmas.{this_span-fresh, this_span-goes_on}
 

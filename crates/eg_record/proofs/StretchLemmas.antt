@@ -7,7 +7,7 @@ use Rattle.eg_record.specs.declared.row.Row.{Row}
 use Rattle.eg_record.specs.Spans.{this_span, spans_of}
 use Rattle.eg_torque.specs.Excess.{is_excess}
 use Rattle.eg_record.specs.Excess.{true_excess, lasting, longest_in, stretch_of, above}
-use Rattle.eg_record.specs.RowMore.{lasts_with}
+use Rattle.eg_record.specs.Inner.RowMore.{lasts_with}
 use Rattle.eg_record.proofs.SpanLemmas.{this_span-fresh, this_span-goes_on}
 use Rattle.eg_record.proofs.ReactionLemmas.{earlier-fresh, earlier-goes_on, spans_of-last}
 

@@ -18,7 +18,7 @@ use Rattle.eg_record.specs.Summaries.{summary_of}
 use Rattle.eg_record.specs.declared.reactions.Reactions.{Reactions}
 use Rattle.eg_record.specs.declared.span_tally.SpanTally.{SpanTally}
 use Rattle.eg_record.specs.Reactions.{combined, reactions_of}
-use Rattle.eg_record.specs.RowMore.{lasts_with, facts_with, spans_with, span_reactions}
+use Rattle.eg_record.specs.Inner.RowMore.{lasts_with, facts_with, spans_with, span_reactions}
 use Rattle.eg_record.specs.Tallies.{TallyParts, AreSpansOf, IsTallyOf}
 use Rattle.eg_record.proofs.ExcessLemmas.{begins, fed_stands, fed_answers}
 use Rattle.eg_record.proofs.ReactionLemmas.{told-all, spans_with-is}

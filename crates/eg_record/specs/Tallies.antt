@@ -1,5 +1,4 @@
--- Outside the headline. What a tally keeps of rows that are gone, and for which rows it stands. Lists of
--- rows stand newest first.
+-- What a tally keeps of rows that are gone, and for which rows it stands. Lists of rows stand newest first.
 use Rattle.std.specs.Prelude.{◌≡◌, ℕ, ◌≤◌, List, map, drop}
 use Rattle.eg_num.specs.Windows.{WeightParts, AreWeights}
 use Rattle.eg_num.specs.Counting.{StandsFor}

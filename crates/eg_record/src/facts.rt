@@ -7,7 +7,7 @@ ghost use Rattle.eg_record.specs.Detection.{cutting_at, detected_at, first_watch
 ghost use Rattle.eg_record.specs.Excess.{true_excess, above};
 ghost use Rattle.eg_record.specs.Stages.{off_at};
 ghost use Rattle.eg_record.specs.Facts.{facts_of, reaction_by, reaction_in, summary_with};
-ghost use Rattle.eg_record.specs.RowMore.{facts_with};
+ghost use Rattle.eg_record.specs.Inner.RowMore.{facts_with};
 ghost use Rattle.eg_record.specs.Summaries.{summary_of};
 
 use crate::detection::{above, cutting, is_off};
@@ -97,7 +97,7 @@ impl Facts {
 
     /// One row more, at which the true excess is confirmed or isn't, and up to which `lasts` rows in a row
     /// have one.
-    #[tactic(auto, unfolding(crate::specs::RowMore::facts_with, crate::specs::Stages::off_at))]
+    #[tactic(auto, unfolding(crate::specs::Inner::RowMore::facts_with, crate::specs::Stages::off_at))]
     pub(crate) fn add(&mut self, row: &Row, threshold: u16, is_confirmed: bool, lasts: u32)
         requires fewer { self.old.ticks < 20000 }
         requires lasts { lasts ≡ 0 → true_excess threshold row.now ≡ false }

@@ -2,7 +2,7 @@
 ghost use Rattle.std.specs.Prelude.{◌≡◌, List, [], ◌∷◌, not, false, Some, if◌then◌else◌};
 ghost use Rattle.eg_record.specs.Detection.{is_trip};
 ghost use Rattle.eg_record.specs.Margins.{IsMarginTallyOf, Weighed, greater_than, margins_of, no_margins, surplus_at};
-ghost use Rattle.eg_record.specs.RowMore.{greater_counters};
+ghost use Rattle.eg_record.specs.Inner.RowMore.{greater_counters};
 
 use crate::Row;
 use crate::detection::is_trip;
@@ -128,7 +128,7 @@ fn greatest_with(greatest: &Counters, counters: &Counters, counts: bool) -> Coun
 }
 
 /// The greater of both, debouncer by debouncer.
-#[tactic(auto, unfolding(crate::specs::RowMore::greater_counters))]
+#[tactic(auto, unfolding(crate::specs::Inner::RowMore::greater_counters))]
 fn greater_counters(one: &Counters, other: &Counters) -> Counters
     ensures { result ≡ greater_counters one.now other.now }
 {

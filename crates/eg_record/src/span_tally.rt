@@ -1,7 +1,7 @@
 // What is kept of the spans of rows that are gone.
 ghost use Rattle.std.specs.Prelude.{◌≡◌, ◌+◌, ◌-◌, None, option_map};
 ghost use Rattle.eg_record.specs.Reactions.{combined, no_reactions};
-ghost use Rattle.eg_record.specs.RowMore.{ended_at, gone_on, spans_with, span_reactions};
+ghost use Rattle.eg_record.specs.Inner.RowMore.{ended_at, gone_on, spans_with, span_reactions};
 
 use crate::facts::{note_on, note_tick, reaction_by};
 use crate::{Reactions, Row};
@@ -36,7 +36,7 @@ impl SpanTally {
     }
 
     /// One row more, at which the true excess is confirmed or isn't.
-    #[tactic(auto, unfolding(crate::specs::RowMore::spans_with))]
+    #[tactic(auto, unfolding(crate::specs::Inner::RowMore::spans_with))]
     pub(crate) fn add(&mut self, row: &Row, is_confirmed: bool)
         ensures { self.new ≡ spans_with row.now is_confirmed self.old }
     {
@@ -57,7 +57,7 @@ impl SpanTally {
     /// in memory, and a row changes there what it must.
     #[cold]
     #[inline(never)]
-    #[tactic(auto, unfolding(crate::specs::RowMore::ended_at))]
+    #[tactic(auto, unfolding(crate::specs::Inner::RowMore::ended_at))]
     fn end(&mut self, end: u32)
         ensures { self.new ≡ ended_at end self.old }
     {
@@ -67,7 +67,7 @@ impl SpanTally {
     }
 
     /// One row more of the span.
-    #[tactic(auto, unfolding(crate::specs::RowMore::gone_on))]
+    #[tactic(auto, unfolding(crate::specs::Inner::RowMore::gone_on))]
     fn go_on(&mut self, row: &Row, is_confirmed: bool)
         ensures { self.new ≡ gone_on row.now is_confirmed self.old }
     {
@@ -76,7 +76,7 @@ impl SpanTally {
     }
 
     /// What is told of the span, where it ends before this tick.
-    #[tactic(auto, unfolding(crate::specs::RowMore::span_reactions))]
+    #[tactic(auto, unfolding(crate::specs::Inner::RowMore::span_reactions))]
     fn span_reactions(&self, end: u32) -> Reactions
         ensures { result ≡ span_reactions end self.now }
     {

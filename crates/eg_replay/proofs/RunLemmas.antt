@@ -32,7 +32,7 @@ use Rattle.eg_input.specs.declared.recorded.Recorded.{Recorded}
 use Rattle.eg_replay.specs.Replay.{tracks_of, effects_of, entry_of, tick_of, alone, replayed, given_readings, counters_after, told_at, told_after}
 use Rattle.eg_replay.specs.declared.tick_signals.TickSignals.{TickSignals}
 use Rattle.eg_replay.specs.declared.tick_signals.Counters.{Counters}
-use Rattle.eg_replay.specs.Running.{meeting, HasRun, counters_kept}
+use Rattle.eg_replay.specs.Inner.Running.{meeting, HasRun, counters_kept}
 use Rattle.eg_replay.proofs.TellLemmas.{AreAlike, plain-module, tick-told, finds-same, keeps-told}
 
 -- ---- what is read ----

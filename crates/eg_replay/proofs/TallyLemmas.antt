@@ -7,7 +7,7 @@ use Rattle.eg_record.specs.Detection.{is_trip}
 use Rattle.eg_replay.specs.declared.tick_signals.TickSignals.{TickSignals}
 use Rattle.eg_replay.specs.declared.findings.Findings.{Findings}
 use Rattle.eg_replay.specs.Findings.{found_at, trip_at, lasting, longest, surplus_of, findings_of}
-use Rattle.eg_replay.specs.TickMore.{first_with, lasting_with, found_with, greater_counters, surplus_with, findings_with}
+use Rattle.eg_replay.specs.Inner.TickMore.{first_with, lasting_with, found_with, greater_counters, surplus_with, findings_with}
 use Rattle.eg_replay.specs.Tallies.{TallyParts, IsTallyOf}
 
 first-none : (tick : ℕ) (first : Option ℕ) → first_with tick false first ≡ first

@@ -1,6 +1,6 @@
--- Outside the headline. Closed and open loop agree: what level 2 told in a drive span, a replay tells of the
--- readings that level 2 was given in it. All that is asked is that level 2 ran as without a fault. What it
--- read may be wrong, and what level 1, the engine and level 3 did doesn't count.
+-- Closed and open loop agree: what level 2 told in a drive span, a replay tells of the readings that level 2
+-- was given in it. All that is asked is that level 2 ran as without a fault. What it read may be wrong, and
+-- what level 1, the engine and level 3 did doesn't count.
 use Rattle.std.specs.Prelude.{◌≡◌, ℕ, ◌-◌, ◌≤◌, ◌<◌, false, List, All, map, length, None, Some}
 use Rattle.eg_sensor.specs.Brake.{sound_contacts}
 use Rattle.eg_values.specs.Calibration.{CalibrationParts}

@@ -1,6 +1,5 @@
--- Outside the headline. What the ticks of a replay come to: when each watch is found, the greatest that
--- each debouncer weighed, the first trip, the longest stretch of excess, and the greatest surplus of
--- torque. Lists stand newest first.
+-- What the ticks of a replay come to: when each watch is found, the greatest that each debouncer weighed, the
+-- first trip, the longest stretch of excess, and the greatest surplus of torque. Lists stand newest first.
 use Rattle.std.specs.Prelude.{ℕ, ◌+◌, ◌==◌, ℤ, pos, ◌-ℤ◌, Bool, List, [], ◌∷◌, map, length, max, Option, Some, None, is_some, if◌then◌else◌, slice_index}
 use Rattle.std.specs.Option.{option_or}
 use Rattle.eg_num.specs.declared.watches.Watches.{Watches}

@@ -1,7 +1,7 @@
 pub mod Findings
-pub mod TickMore
 pub mod Tallies
 pub mod Texts
 pub mod Replay
 pub mod Running
 pub mod Agreement
+pub mod Inner

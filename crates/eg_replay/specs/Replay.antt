@@ -1,7 +1,6 @@
--- Outside the headline. A replay is level 2 alone over readings that were recorded: it begins as new, at
--- each tick all eight modules run, nothing is out of order but what the sensors read, and no answer is
--- asked for. So its moments are those of a drive span whose effects give these readings. Lists stand
--- newest first.
+-- A replay is level 2 alone over readings that were recorded: it begins as new, at each tick all eight
+-- modules run, nothing is out of order but what the sensors read, and no answer is asked for. So its moments
+-- are those of a drive span whose effects give these readings. Lists stand newest first.
 use Rattle.std.specs.Prelude.{ℕ, ◌-◌, List, [], ◌∷◌, map, false, ◌&&◌, if◌then◌else◌, None, slice_index}
 use Rattle.eg_sensor.specs.Brake.{is_pressed, gated}
 use Rattle.eg_sensor.specs.declared.readings.Readings.{Readings}

@@ -1,5 +1,5 @@
--- Outside the headline. What a tally keeps of ticks that are gone, and for which ticks it stands. Lists of
--- ticks stand newest first.
+-- What a tally keeps of ticks that are gone, and for which ticks it stands. Lists of ticks stand newest
+-- first.
 use Rattle.std.specs.Prelude.{◌≡◌, ℕ, List}
 use Rattle.eg_replay.specs.declared.tick_signals.TickSignals.{TickSignals}
 use Rattle.eg_replay.specs.declared.findings.Findings.{Findings}

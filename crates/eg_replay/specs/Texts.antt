@@ -1,5 +1,5 @@
--- Outside the headline. `signals` writes a header and a line for each tick, `replay` nine lines of what
--- the ticks come to. A text is the list of its bytes, and each line ends with LF.
+-- `signals` writes a header and a line for each tick, `replay` nine lines of what the ticks come to. A text
+-- is the list of its bytes, and each line ends with LF.
 use Rattle.std.specs.Prelude.{ℕ, ℤ, List, [], ◌∷◌, ◌++◌, length, codes, decimal, Option, Some, None, slice_index}
 use Rattle.std.specs.Fmt.{signed_decimal}
 use Rattle.eg_num.specs.Windows.{WeightParts}

@@ -3,7 +3,7 @@ ghost use Rattle.std.specs.Prelude.{◌≡◌, ◌+◌, ◌<◌, ◌^◌, [], So
 ghost use Rattle.eg_record.specs.Detection.{is_trip};
 ghost use Rattle.eg_record.specs.Margins.{greater_than};
 ghost use Rattle.eg_replay.specs.Findings.{findings_of, surplus_at};
-ghost use Rattle.eg_replay.specs.TickMore.{first_with, found_with, greater_counters, findings_with, surplus_with};
+ghost use Rattle.eg_replay.specs.Inner.TickMore.{first_with, found_with, greater_counters, findings_with, surplus_with};
 
 use crate::{Counters, TickSignals, Watches};
 use eg_record::{greater_than, is_trip};
@@ -92,7 +92,7 @@ impl Findings {
 }
 
 /// Notes a tick where it is such a one, and none is noted yet.
-#[tactic(auto, unfolding(crate::specs::TickMore::first_with))]
+#[tactic(auto, unfolding(crate::specs::Inner::TickMore::first_with))]
 fn note_first(first: &mut Option<u64>, is_such: bool, tick: u64)
     ensures { first.new ≡ first_with tick is_such first.old }
 {
@@ -102,7 +102,7 @@ fn note_first(first: &mut Option<u64>, is_such: bool, tick: u64)
 }
 
 /// The greater of both, debouncer by debouncer.
-#[tactic(auto, unfolding(crate::specs::TickMore::greater_counters))]
+#[tactic(auto, unfolding(crate::specs::Inner::TickMore::greater_counters))]
 fn greater_counters(one: &Counters, other: &Counters) -> Counters
     ensures { result ≡ greater_counters one.now other.now }
 {
@@ -116,7 +116,7 @@ fn greater_counters(one: &Counters, other: &Counters) -> Counters
 }
 
 /// The greatest surplus with this tick, in tenths of Nm: it counts unless a watch tripped before it.
-#[tactic(auto, unfolding(crate::specs::TickMore::surplus_with))]
+#[tactic(auto, unfolding(crate::specs::Inner::TickMore::surplus_with))]
 fn surplus_with(told: &TickSignals, tripped: bool, surplus: Option<i32>) -> Option<i32>
     ensures { result ≡ surplus_with told.now tripped surplus }
 {

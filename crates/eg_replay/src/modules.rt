@@ -8,7 +8,7 @@ ghost use Rattle.eg_level2.specs.Inputs.{IsPrepared, readings_of, asked_of};
 ghost use Rattle.eg_level2.specs.Modules.{found_by};
 ghost use Rattle.eg_level2.specs.Ticks.{after_modules, after_tick, finds_at, inputs_for};
 ghost use Rattle.eg_turns.specs.Board.{by_tracks};
-ghost use Rattle.eg_replay.specs.Running.{meeting, HasRun};
+ghost use Rattle.eg_replay.specs.Inner.Running.{meeting, HasRun};
 
 use eg_guard::FlatMemory;
 use eg_level2::{Level2, Phase, Prepared};

@@ -2,7 +2,8 @@
 ghost use Rattle.std.specs.Prelude.{◌≡◌, ◌∷◌, [], List};
 ghost use Rattle.eg_level2.specs.Words.{words_of, start, AreMirrored, AreWithin};
 ghost use Rattle.eg_replay.specs.Replay.{told_after, given_readings};
-ghost use Rattle.eg_replay.specs.Running.{IsReplayOf, counters_kept};
+ghost use Rattle.eg_replay.specs.Inner.Running.{counters_kept};
+ghost use Rattle.eg_replay.specs.Running.{IsReplayOf};
 ghost use Rattle.eg_input.specs.declared.recorded.Recorded.{Recorded as IsRecorded};
 
 use crate::modules::{run_modules, show_readings};
@@ -104,7 +105,7 @@ fn started(level2: &Level2) -> FlatMemory
 }
 
 /// What the debouncers weigh, as it stands in the memory.
-#[tactic(auto, unfolding(crate::specs::Running::counters_kept, eg_level2::specs::Words::named))]
+#[tactic(auto, unfolding(crate::specs::Inner::Running::counters_kept, eg_level2::specs::Words::named))]
 fn counters(memory: &FlatMemory) -> Counters
     ensures { result ≡ counters_kept (words_of memory.now) }
 {

@@ -1,7 +1,7 @@
 // The tally of the ticks of a replay.
 ghost use Rattle.std.specs.Prelude.{◌≡◌, ◌+◌, ◌<◌, ◌^◌, List, [], ◌∷◌};
 ghost use Rattle.eg_replay.specs.Findings.{findings_of};
-ghost use Rattle.eg_replay.specs.TickMore.{lasting_with};
+ghost use Rattle.eg_replay.specs.Inner.TickMore.{lasting_with};
 ghost use Rattle.eg_replay.specs.Tallies.{IsTallyOf, IsTally};
 
 use crate::{Findings, TickSignals};
@@ -69,7 +69,7 @@ impl Tally {
 }
 
 /// How many ticks in a row have an excess up to this one, where so many had one up to the tick before it.
-#[tactic(auto, unfolding(crate::specs::TickMore::lasting_with))]
+#[tactic(auto, unfolding(crate::specs::Inner::TickMore::lasting_with))]
 fn lasting_with(told: &TickSignals, lasting: u64) -> u64
     requires fewer { lasting + 1 < 2 ^ 64 }
     ensures { result ≡ lasting_with told.now lasting }

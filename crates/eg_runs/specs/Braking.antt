@@ -1,5 +1,4 @@
--- Outside the headline. Runs with a brake: the calibration that lets it count, and what a row of one tick
--- tells.
+-- Runs with a brake: the calibration that lets it count, and what a row of one tick tells.
 use Rattle.std.specs.Prelude.{ℕ, Bool, true, List, [], ◌∷◌, ◌++◌, map, replicate, Option}
 use Rattle.eg_num.specs.Drive.{DriveRow, driven}
 use Rattle.eg_fault.specs.declared.class.Class.{Class}

@@ -1,4 +1,4 @@
--- Outside the headline. Runs of a diesel engine on the bench, and what is told of them.
+-- Runs of a diesel engine on the bench, and what is told of them.
 use Rattle.std.specs.Prelude.{ℕ, List, ◌∷◌, ◌++◌, map, replicate, codes, reverse, length}
 use Rattle.eg_num.specs.Drive.{DriveRow}
 use Rattle.eg_record.specs.declared.summary.Summary.{Summary}

@@ -1,4 +1,4 @@
--- Outside the headline. The facts of a run after each of its ticks.
+-- The facts of a run after each of its ticks.
 use Rattle.std.specs.Prelude.{ℕ, zero, suc, ◌-◌, ◌*◌, min, max, List, [], ◌∷◌, Option, Some, None, nat_le, if◌then◌else◌}
 use Rattle.eg_values.specs.Reference.{reference_rules}
 use Rattle.eg_record.specs.declared.facts.Facts.{Facts}

@@ -1,4 +1,4 @@
--- Outside the headline. An image that is worked out because of its outputs.
+-- An image that is worked out because of its outputs.
 use Rattle.std.specs.Prelude.{ℕ, List, [], ◌∷◌}
 
 -- sets both outputs to 1000, and does so again in each slice

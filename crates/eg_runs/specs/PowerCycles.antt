@@ -1,5 +1,4 @@
--- Outside the headline. Runs with several power cycles, and what is told of their ticks by their number in
--- the run.
+-- Runs with several power cycles, and what is told of their ticks by their number in the run.
 use Rattle.std.specs.Prelude.{ℕ, ◌-◌, Bool, true, false, List, [], ◌∷◌, ◌++◌, map, filter, replicate, Option, None}
 use Rattle.eg_num.specs.Drive.{DriveRow}
 use Rattle.eg_answer.specs.declared.marks.AnswerMark.{AnswerMark}

@@ -1,4 +1,4 @@
--- Outside the headline. Runs with a ramp, by which permitted torque comes down by at most 5.0 Nm in a tick.
+-- Runs with a ramp, by which permitted torque comes down by at most 5.0 Nm in a tick.
 use Rattle.std.specs.Prelude.{ℕ, List, [], ◌∷◌, ◌++◌, replicate, Option}
 use Rattle.eg_num.specs.Drive.{DriveRow, driven}
 use Rattle.eg_fault.specs.declared.class.Fault.{Fault}

@@ -1,4 +1,4 @@
--- Outside the headline. Images whose throttle stays where it is.
+-- Images whose throttle stays where it is.
 use Rattle.std.specs.Prelude.{ℕ, ◌+◌, List, [], ◌∷◌}
 
 -- the image that sets both outputs to this number, below 128, and waits for ever

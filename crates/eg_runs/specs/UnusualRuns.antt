@@ -1,4 +1,4 @@
--- Outside the headline. A run with a reading that would lie above the greatest word.
+-- A run with a reading that would lie above the greatest word.
 use Rattle.std.specs.Prelude.{pos, [], ◌∷◌}
 use Rattle.eg_num.specs.Drive.{driven}
 use Rattle.eg_fault.specs.declared.class.Class.TheVariants.{Offset}

@@ -1,5 +1,5 @@
--- Outside the headline. Runs that show the laws of lapses at work. In each level 1 opens the throttle. In one
--- level 2 runs at one tick of ten; in the others it runs up to a send tick, and never again.
+-- Runs that show the laws of lapses at work. In each level 1 opens the throttle. In one level 2 runs at one
+-- tick of ten; in the others it runs up to a send tick, and never again.
 use Rattle.std.specs.Prelude.{Bool, List, [], ◌∷◌, ◌++◌, map, replicate, Some, None}
 use Rattle.eg_num.specs.Drive.{driven}
 use Rattle.eg_fault.specs.declared.class.Class.TheVariants.{Lapse}

@@ -1,5 +1,5 @@
--- Outside the headline. Runs in which level 2 misses a tick now and then: at two distances, at a send tick
--- where two wrong verdicts are enough, and within an excess that has a gap.
+-- Runs in which level 2 misses a tick now and then: at two distances, at a send tick where two wrong verdicts
+-- are enough, and within an excess that has a gap.
 use Rattle.std.specs.Prelude.{ℕ, [], ◌∷◌, ◌++◌, replicate, List, Option, None}
 use Rattle.eg_num.specs.Drive.{DriveRow, driven}
 use Rattle.eg_fault.specs.declared.class.Class.TheVariants.{Lapse}

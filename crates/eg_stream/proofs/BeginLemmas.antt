@@ -12,7 +12,7 @@ use Rattle.eg_input.specs.declared.recorded.TheConstants.{MOST_BYTES}
 use Rattle.eg_input.specs.declared.columns.Columns.{Columns}
 use Rattle.eg_input.specs.Recording.{columns_of}
 use Rattle.eg_input.proofs.LengthLaws.{columns_of-seen}
-use Rattle.eg_stream.specs.Reading.{RecordingBegins, columns_or_header, columns_or_end}
+use Rattle.eg_stream.specs.Inner.Reading.{RecordingBegins, columns_or_header, columns_or_end}
 
 -- what is read of the first line gives what the line gives
 first_seen : (line buffer : List ℕ) → buffer ≡ take (MOST_BYTES + 1) line → columns_of buffer ≡ columns_of line

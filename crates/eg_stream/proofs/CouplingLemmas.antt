@@ -28,7 +28,7 @@ use Rattle.eg_outcome.specs.declared.outcome.Refusal.TheVariants as refusal
 use Rattle.eg_stream.specs.Streams.{LeadTo, HasWritten, WritesFront, StreamEnds}
 use Rattle.eg_stream.specs.Coupled.{CoupledUnit, Objection, NoAnswer, LoadBelowTorque, TorqueWhileOff, entry_by, entries_by, coupled_moments, coupled_rows, lawful, lawful_if_any, taken, AreTaken}
 use Rattle.eg_stream.specs.Texts.{coupled_header, first_line, coupled_line, answer_line, coupled_text}
-use Rattle.eg_stream.specs.Running.{IsCoupled, AnswerComes}
+use Rattle.eg_stream.specs.Inner.Running.{IsCoupled, AnswerComes}
 use Rattle.eg_stream.specs.Couplings.{most_answers, coupling, refusal_of, answered, couple_step, couple_work, CouplingEnds}
 use Rattle.eg_stream.proofs.HeadlineLemmas.{coupled-headline}
 use Rattle.eg_stream.proofs.TakenLemmas.{taken-answer}

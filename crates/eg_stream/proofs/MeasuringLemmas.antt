@@ -29,7 +29,7 @@ use Rattle.eg_replay.specs.Running.{ReplayParts, IsReplayOf}
 use Rattle.eg_stream.specs.declared.recording.Recording.{Recording}
 use Rattle.eg_stream.specs.Streams.{LineWork, LeadTo, HasWritten, WritesFront, StreamEnds, HoldsWhole}
 use Rattle.eg_stream.specs.Recordings.{Measured, headed, measured_on, recording_work, recording_step, of_ticks, in_all, signals_in, signals_so_far, replay_in, signals_work, replay_work, RecordingEnds, HoldsRecording}
-use Rattle.eg_stream.specs.Reading.{NoHeaderComes, RecordingBegins, RecordingGoesOn, FindingsCome}
+use Rattle.eg_stream.specs.Inner.Reading.{NoHeaderComes, RecordingBegins, RecordingGoesOn, FindingsCome}
 use Rattle.eg_stream.proofs.StreamLemmas.{HasTaken, none-taken, one-more, none-written, front-none, one-written, put-refused, ends-unput, ends-stopped, ends-unread, ends-refused, ends-short, ends-done, IsOfLines, RefusesLines}
 
 -- ---- what is told ----

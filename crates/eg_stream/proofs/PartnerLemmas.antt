@@ -14,7 +14,7 @@ use Rattle.eg_input.proofs.LengthLaws.{answer_of-seen}
 use Rattle.eg_tick.specs.Commanding.{commanded_at}
 use Rattle.eg_stream.specs.Coupled.{CoupledUnit, Objection, NoAnswer, LoadBelowTorque, TorqueWhileOff, entries_by, covers, lawful, lawful_if_any, taken}
 use Rattle.eg_stream.specs.Couplings.{refusal_of}
-use Rattle.eg_stream.specs.Running.{outcome_of, AnswerComes}
+use Rattle.eg_stream.specs.Inner.Running.{outcome_of, AnswerComes}
 
 -- ---- what is taken of a line ----
 

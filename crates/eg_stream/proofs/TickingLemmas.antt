@@ -16,7 +16,7 @@ use Rattle.eg_tick.specs.Stands.{Stands}
 use Rattle.eg_tick.specs.Advancing.{entry_of, IsTick}
 use Rattle.eg_tick.specs.Commanding.{commanded_at}
 use Rattle.eg_stream.specs.Coupled.{CoupledUnit, unit_of, entry_by, entries_by, lawful}
-use Rattle.eg_stream.specs.Running.{IsCoupled}
+use Rattle.eg_stream.specs.Inner.Running.{IsCoupled}
 use Rattle.eg_stream.proofs.TakenLemmas.{on-commanded, lawful-passes}
 
 -- before the first answer

@@ -1,9 +1,8 @@
 pub mod Streams
 pub mod Recordings
-pub mod Reading
 pub mod Coupled
 pub mod Texts
 pub mod Headline
 pub mod Used
 pub mod Couplings
-pub mod Running
+pub mod Inner

@@ -1,5 +1,5 @@
--- Outside the headline. Lines of a recording come one by one (F13), and the first that isn't accepted is
--- refused (F14). What was recorded stands newest first.
+-- Lines of a recording come one by one (F13), and the first that isn't accepted is refused (F14). What was
+-- recorded stands newest first.
 use Rattle.std.specs.Prelude.{ℕ, List, [], ◌∷◌, Option, Some, None, Result, Ok, Err}
 use Rattle.eg_lines.specs.Lines.{ShownLines}
 use Rattle.eg_base.specs.Outside.{ShownSink}

@@ -1,4 +1,4 @@
--- Outside the headline. What is told as commanded next (C88, F35) is what the model's next tick uses.
+-- What is told as commanded next (C88, F35) is what the model's next tick uses.
 use Rattle.std.specs.Prelude.{◌≡◌, true, false, List, [], ◌∷◌, length}
 use Rattle.eg_num.specs.Drive.{DriveRow}
 use Rattle.eg_record.specs.declared.row.Row.{Row}

@@ -8,7 +8,7 @@ ghost use Rattle.eg_outcome.specs.declared.outcome.Outcome.TheVariants.{Refused}
 ghost use Rattle.eg_outcome.specs.declared.outcome.Refusal.TheVariants.{Check};
 ghost use Rattle.eg_replay.specs.Texts.{signals_line, replay_text};
 ghost use Rattle.eg_stream.specs.Recordings.{RecordingEnds, signals_work, replay_work};
-ghost use Rattle.eg_stream.specs.Reading.{FindingsCome};
+ghost use Rattle.eg_stream.specs.Inner.Reading.{FindingsCome};
 
 use crate::recording::Recording;
 use eg_base::{NoMemory, Sink};

@@ -9,7 +9,7 @@ ghost use Rattle.eg_input.specs.declared.answered.TheConstants.{MOST_ANSWER_BYTE
 ghost use Rattle.eg_model.specs.History.{Setting, Entry};
 ghost use Rattle.eg_tick.specs.Commanding.{commanded_at, commands_next};
 ghost use Rattle.eg_stream.specs.Coupled.{CoupledUnit, entries_by, covers, taken};
-ghost use Rattle.eg_stream.specs.Running.{AnswerComes, outcome_of};
+ghost use Rattle.eg_stream.specs.Inner.Running.{AnswerComes, outcome_of};
 
 use eg_input::{PartnerAnswer, TraceFault, answer_of};
 use eg_lines::Lines;

@@ -3,7 +3,7 @@ ghost use Rattle.std.specs.Prelude.{◌≡◌, ◌+◌, ◌<◌, ◌^◌};
 ghost use Rattle.eg_outcome.specs.Changes.{change_of};
 ghost use Rattle.eg_outcome.specs.declared.outcome.Outcome.TheVariants.{Refused};
 ghost use Rattle.eg_outcome.specs.declared.outcome.Refusal.TheVariants.{Check};
-ghost use Rattle.eg_stream.specs.Reading.{columns_or_end, columns_or_header, RecordingBegins, RecordingGoesOn};
+ghost use Rattle.eg_stream.specs.Inner.Reading.{columns_or_end, columns_or_header, RecordingBegins, RecordingGoesOn};
 
 use eg_input::{Columns, MOST_BYTES, Recorded, TraceFault, columns_of, recorded_of};
 use eg_lines::Lines;

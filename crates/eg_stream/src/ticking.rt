@@ -8,7 +8,7 @@ ghost use Rattle.eg_input.specs.declared.answered.PartnerAnswer.{PartnerAnswer a
 ghost use Rattle.eg_tick.specs.Commanding.{commands_next};
 ghost use Rattle.eg_tick.specs.Weights.{weight_of};
 ghost use Rattle.eg_stream.specs.Coupled.{CoupledUnit, unit_of, entry_by, entries_by, lawful, taken};
-ghost use Rattle.eg_stream.specs.Running.{IsCoupled};
+ghost use Rattle.eg_stream.specs.Inner.Running.{IsCoupled};
 
 use eg_fault::Fault;
 use eg_guard::FlatMemory;

@@ -1,5 +1,5 @@
--- Outside the headline. What "has acted" means: what a fault does at some tick of the run isn't nothing. And
--- a fault is told in one column.
+-- What "has acted" means: what a fault does at some tick of the run isn't nothing. And a fault is told in one
+-- column.
 use Rattle.std.specs.Prelude.{◌≡◌, ◌≢◌, ◌↔◌, ℕ, ◌<◌, ◌==◌, Bool, true, false, not, List, Some}
 use Rattle.std.specs.List.{list_all}
 use Rattle.eg_fault.specs.Effects.{no_effects}

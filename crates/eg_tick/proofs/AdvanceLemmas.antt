@@ -39,8 +39,8 @@ use Rattle.eg_agree.proofs.HistoryLemmas.{within_law}
 use Rattle.eg_tick.specs.Kept.{Kept, ControllerParts}
 use Rattle.eg_tick.specs.Stands.{kind_of, Stands, HoldsMonitor, IsController}
 use Rattle.eg_tick.specs.Entering.{StaysOrBegins}
-use Rattle.eg_tick.specs.Working.{Serves, Served, IsStep}
-use Rattle.eg_tick.specs.Judging.{ComesNext, Tells}
+use Rattle.eg_tick.specs.Inner.Working.{Serves, Served, IsStep}
+use Rattle.eg_tick.specs.Inner.Judging.{ComesNext, Tells}
 use Rattle.eg_tick.specs.Inside.{IsWhole}
 use Rattle.eg_tick.specs.Advancing.{effects_after, entry_of, world_before, StaysOrSteps, IsTick}
 use Rattle.eg_tick.specs.declared.monitoring.Judgement.{Judgement}

@@ -10,7 +10,7 @@ use Rattle.eg_values.specs.Calibration.{CalibrationParts}
 use Rattle.eg_model.specs.History.{Setting, Entry, Tick, SpanKind}
 use Rattle.eg_model.specs.Moments.{is_braking, sensed_at, readings_at}
 use Rattle.eg_agree.specs.Doings.{phase_at}
-use Rattle.eg_tick.specs.Judging.{ComesNext}
+use Rattle.eg_tick.specs.Inner.Judging.{ComesNext}
 
 pub phase-else : (kind : SpanKind) (times : TimeParts) (x y : Effects) (tick : ℕ) → ElseAlike x y → phase_at kind times x tick ≡ phase_at kind times y tick
 unfolding phase_at sends_at

@@ -32,7 +32,7 @@ use Rattle.eg_agree.proofs.ReplyLaws.{number_expected-usual}
 use Rattle.eg_tick.specs.Stands.{was_wild, IsOrderly, HoldsMonitor, HoldsSpan}
 use Rattle.eg_tick.specs.Kept.{Kept}
 use Rattle.eg_values.specs.Calibration.{CalibrationParts}
-use Rattle.eg_tick.specs.Judging.{with_heard, Takes, IsDeaf, ComesNext}
+use Rattle.eg_tick.specs.Inner.Judging.{with_heard, Takes, IsDeaf, ComesNext}
 use Rattle.eg_model.proofs.TickLemmas.{fields_in}
 
 -- ---- wild, once it has begun ----

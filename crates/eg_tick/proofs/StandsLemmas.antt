@@ -29,8 +29,8 @@ use Rattle.eg_turns.specs.Midway.{signals_in}
 use Rattle.eg_tick.specs.Kept.{Kept}
 use Rattle.eg_tick.specs.Stands.{kind_of, HoldsLatches, HoldsMonitor, HoldsSpan, HoldsEngine, IsShown, Stands}
 use Rattle.eg_tick.specs.Entering.{kind_from, ticks_from}
-use Rattle.eg_tick.specs.Working.{Served, IsStep}
-use Rattle.eg_tick.specs.Judging.{Tells}
+use Rattle.eg_tick.specs.Inner.Working.{Served, IsStep}
+use Rattle.eg_tick.specs.Inner.Judging.{Tells}
 use Rattle.eg_tick.specs.declared.monitoring.Judgement.{Judgement}
 use Rattle.eg_tick.specs.declared.paths.Paths.{Paths}
 use Rattle.eg_tick.specs.declared.span.SpanTick.{SpanTick}

@@ -24,7 +24,7 @@ use Rattle.eg_fault.specs.Faults.{IsNoneOrValid}
 use Rattle.eg_agree.specs.Replies.{doing_after, words_over, moment_after}
 use Rattle.eg_agree.proofs.WholeRuns.{words_stand, is_tick_over, last_checks_stand, words_rest}
 use Rattle.eg_tick.specs.Stands.{HoldsLevel1, HoldsLevel2}
-use Rattle.eg_tick.specs.Working.{work_at}
+use Rattle.eg_tick.specs.Inner.Working.{work_at}
 use Rattle.eg_turns.specs.Board.{by_tracks, ten_ports}
 use Rattle.eg_turns.specs.Midway.{Work, signals_in, view_at, rest_of}
 use Rattle.eg_turns.specs.Working.{Holds}

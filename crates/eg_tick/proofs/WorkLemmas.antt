@@ -17,7 +17,7 @@ use Rattle.eg_agree.specs.Ticking.{IsTick}
 use Rattle.eg_fault.specs.Faults.{IsNoneOrValid}
 use Rattle.eg_agree.specs.Replies.{doing_after, words_over, moment_after, number_expected, mark_of}
 use Rattle.eg_agree.proofs.WholeRuns.{is_tick_over, each_answer_holds}
-use Rattle.eg_tick.specs.Working.{work_at, Serves, Served, IsStep}
+use Rattle.eg_tick.specs.Inner.Working.{work_at, Serves, Served, IsStep}
 use Rattle.eg_turns.specs.Board.{by_tracks}
 use Rattle.eg_turns.specs.Midway.{Work, rest_of, Meets, IsDue, tick_step}
 use Rattle.eg_turns.specs.Working.{Holds, Works}

@@ -1,5 +1,5 @@
--- Outside the headline. A tick of a controller, from a history that it stands for to the history with one
--- entry more; and what its row owes to the laws of a run.
+-- A tick of a controller, from a history that it stands for to the history with one entry more; and what its
+-- row owes to the laws of a run.
 use Rattle.std.specs.Prelude.{◌≡◌, ℕ, ◌+◌, ◌-◌, ◌*◌, ◌≤◌, ◌<◌, ◌⊎◌, Bool, true, false, not, List, ◌∷◌, ◌++◌, All, map, length, Option, Result, IsTrue, IsOk, IsErr, IfOk, OnOk, OnErr}
 use Rattle.eg_num.specs.Drive.{DriveRow}
 use Rattle.eg_num.specs.Windows.{is_confirmed}

@@ -1,4 +1,4 @@
--- Outside the headline. What makes an engine one that the bench of the model knows.
+-- What makes an engine one that the bench of the model knows.
 use Rattle.std.specs.Prelude.{◌≡◌, ℕ, Bool, Option}
 use Rattle.eg_plant.specs.PlantParts.{PlantParts}
 use Rattle.eg_plant.specs.Engine.{Shown}

@@ -1,5 +1,5 @@
--- Outside the headline. How a tick comes into its span: by whether its drive row resets the unit, whether
--- a start-up test was passed at the tick before, and the span of that tick.
+-- How a tick comes into its span: by whether its drive row resets the unit, whether a start-up test was
+-- passed at the tick before, and the span of that tick.
 use Rattle.std.specs.Prelude.{◌≡◌, ◌⊎◌, Bool, false, ◌||◌, List, [], if◌then◌else◌}
 use Rattle.eg_model.specs.History.{Tick, SpanKind}
 use Rattle.eg_tick.specs.declared.span.Span.{Span}

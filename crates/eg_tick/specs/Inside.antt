@@ -1,4 +1,4 @@
--- Outside the headline. What a controller keeps of its private parts.
+-- What a controller keeps of its private parts.
 use Rattle.std.specs.Prelude.{◌≡◌, ℕ, false, List}
 use Rattle.eg_answer.specs.Times.{test_ticks_of}
 use Rattle.eg_values.specs.Calibration.{CalibrationParts}

@@ -1,4 +1,4 @@
--- Outside the headline. What a controller is made of: what contracts see of it.
+-- What a controller is made of: what contracts see of it.
 use Rattle.std.specs.Prelude.{ℕ, Bool, Option}
 use Rattle.eg_plant.specs.Engine.{Shown}
 use Rattle.eg_word.specs.declared.registers.Trap.{Trap}

@@ -2,8 +2,6 @@ pub mod Weights
 pub mod Counting
 pub mod Kept
 pub mod Stands
-pub mod Working
-pub mod Judging
 pub mod Entering
 pub mod Advancing
 pub mod Commanding
@@ -12,6 +10,7 @@ pub mod Benched
 pub mod Run
 pub mod Margins
 pub mod Facts
+pub mod Inner
 pub use Rattle.eg_answer.specs.Times
 pub use Rattle.eg_fault.specs.Faults
 pub use Rattle.eg_model.specs.Engines

@@ -1,7 +1,7 @@
--- Outside the headline. What a controller stands for: a history of a run, newest first, one entry a tick.
--- What the controller keeps in its memory, latches and counters is what the model says of the ticks of the
--- span that this history ends in. What each part holds is said of any list of ticks, as a span of either
--- kind; `Stands` alone says which ticks of the history these are.
+-- What a controller stands for: a history of a run, newest first, one entry a tick. What the controller keeps
+-- in its memory, latches and counters is what the model says of the ticks of the span that this history ends
+-- in. What each part holds is said of any list of ticks, as a span of either kind; `Stands` alone says which
+-- ticks of the history these are.
 use Rattle.std.specs.Prelude.{◌≡◌, ℕ, ◌<◌, Bool, true, false, is_some, List, [], ◌∷◌, map, take, length, slice_index, if◌then◌else◌}
 use Rattle.std.specs.List.{list_any}
 use Rattle.eg_plant.specs.Engine.{Shown}

@@ -11,7 +11,7 @@ ghost use Rattle.eg_fault.specs.Faults.{effects};
 ghost use Rattle.eg_model.specs.History.{Setting, Tick, SpanKind};
 ghost use Rattle.eg_agree.specs.Replies.{moment_after, mark_of};
 ghost use Rattle.eg_tick.specs.Stands.{HoldsMonitor};
-ghost use Rattle.eg_tick.specs.Judging.{with_heard, Takes, IsDeaf, ComesNext, Tells};
+ghost use Rattle.eg_tick.specs.Inner.Judging.{with_heard, Takes, IsDeaf, ComesNext, Tells};
 
 use eg_answer::{AnswerMark, Questions, Verdict};
 use eg_fault::{Fault, wild};
@@ -143,7 +143,7 @@ fn verdict(
 }
 
 /// Hears the answer of a tick, if one came.
-#[tactic(auto, unfolding(crate::specs::Judging::with_heard))]
+#[tactic(auto, unfolding(crate::specs::Inner::Judging::with_heard))]
 fn hear(monitor: &mut Monitor, local: u32, answer: Option<u32>)
     requires this_period { monitor.old.verdicts ≡ period_of monitor.old.times local }
     requires later { All (λ heard. heard.tick < local) monitor.old.heard }

@@ -14,7 +14,7 @@ use Rattle.toml.specs.Data.{Members}
 use Rattle.toml.specs.Tables.{Document, close, define, no_nodes}
 use Rattle.toml.specs.Parse.{line, lines, skip_bom, parse_document}
 use Rattle.eg_toml.specs.Documents.{document_of}
-use Rattle.eg_toml.specs.Comments.{is_visible, IsKeptBy}
+use Rattle.eg_toml.specs.Inner.Comments.{is_visible, IsKeptBy}
 use Rattle.eg_toml.specs.declared.places.Place.TheVariants.{Comment}
 use Rattle.eg_toml.specs.Weight.{Weighed, weighed_on, unweighed, weight_of}
 use Rattle.eg_toml.proofs.DocumentLemmas.{document-some}

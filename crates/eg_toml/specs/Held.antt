@@ -1,5 +1,4 @@
--- Outside the headline. What a document may hold somewhere, in the words of TOML: a value of some form, which
--- keeps a rule.
+-- What a document may hold somewhere, in the words of TOML: a value of some form, which keeps a rule.
 use Rattle.std.specs.Prelude.{◌≡◌, ◌⊎◌, ◌≤◌, ℕ, pos, List, [], ◌∷◌, length, All, Option, Some, None}
 use Rattle.toml.specs.Data.{Data, integer, array, Items, no_items, item}
 

@@ -7,4 +7,4 @@ pub mod Arrays
 pub mod Names
 pub mod Refusals
 pub mod Held
-pub mod Comments
+pub mod Inner

@@ -1,5 +1,5 @@
--- Outside the headline. Where each byte of a document stands (F22): in a comment, in a text of one of four
--- kinds, or outside of these. This follows from the byte and the bytes before it.
+-- Where each byte of a document stands (F22): in a comment, in a text of one of four kinds, or outside of
+-- these. This follows from the byte and the bytes before it.
 use Rattle.std.specs.Prelude.{ℕ, ◌+◌, Bool, true, false, not, ◌&&◌, ◌||◌, ◌==◌, nat_le, if◌then◌else◌}
 use Rattle.std.specs.Str.{byte}
 use Rattle.eg_toml.specs.declared.places.Place.{Place}

@@ -1,4 +1,4 @@
--- Outside the headline. What a document weighs (F22): about as many bytes as `toml` takes for its tree.
+-- What a document weighs (F22): about as many bytes as `toml` takes for its tree.
 use Rattle.std.specs.Prelude.{ℕ, ◌+◌, ◌-◌, ◌*◌, Bool, true, false, not, ◌&&◌, ◌||◌, ◌==◌, nat_le, nat_lt, if◌then◌else◌, List, [], ◌∷◌, ◌++◌, length, take, slice_index_or, fold, bit_and}
 use Rattle.std.specs.Str.{byte}
 use Rattle.eg_toml.specs.declared.places.Place.{Place}

@@ -1,6 +1,5 @@
--- Outside the headline. A comment that a line feed ends weighs nothing, and neither does what stands in a
--- text of one line, if the text isn't empty and has no backslash (F22). (Of all other comments and texts the
--- definition says so.)
+-- A comment that a line feed ends weighs nothing, and neither does what stands in a text of one line, if the
+-- text isn't empty and has no backslash (F22). (Of all other comments and texts the definition says so.)
 use Rattle.std.specs.Prelude.{◌≡◌, ℕ, Bool, true, not, ◌&&◌, ◌==◌, List, ◌∷◌, ◌++◌, fold}
 use Rattle.std.specs.List.{list_all}
 use Rattle.std.specs.Str.{byte}

@@ -1,7 +1,7 @@
 // The comments with which a document begins.
 ghost use Rattle.std.specs.Prelude.{◌≡◌, ◌∷◌, ◌<◌, ◌≤◌, IfSome, length};
 ghost use Rattle.std.specs.List.{prefix_len};
-ghost use Rattle.eg_toml.specs.Comments.{IsKeptBy, is_visible};
+ghost use Rattle.eg_toml.specs.Inner.Comments.{IsKeptBy, is_visible};
 ghost use Rattle.eg_toml.specs.Weight.{weight_of};
 
 /// The document behind the comments and empty lines at its front, as far as these are of visible ASCII

@@ -12,7 +12,8 @@ use Rattle.eg_level2.specs.Modules.{answer_after, order_after, given_up, finding
 use Rattle.eg_level2.specs.Ticks.{after_module}
 use Rattle.eg_fault.proofs.ClassLemmas.{faults_check_flips}
 use Rattle.eg_turns.specs.declared.working.Task.{Task}
-use Rattle.eg_turns.specs.Midway.{Work, IsMidway, Meets, step_at}
+use Rattle.eg_turns.specs.Inner.Midway.{step_at}
+use Rattle.eg_turns.specs.Midway.{Work, IsMidway, Meets}
 use Rattle.eg_turns.proofs.MidwayLemmas.{module-midway}
 
 runs-flipped : {A : Type 0} (ran up : Bool) (gone plain idle : A) → ran ≡ true → up ≡ true → gone ≡ (if ran then (if up then gone else plain) else idle)

@@ -13,7 +13,8 @@ use Rattle.eg_level2.specs.Inputs.{Level2Parts, Inputs, inputs_of}
 use Rattle.eg_level2.specs.Modules.{module_step, step_of, answer_after, order_after, found_by, quiet_step, given_up, finding, mirror_alone}
 use Rattle.eg_level2.specs.Ticks.{inputs_for, after_module, after_modules}
 use Rattle.eg_turns.specs.declared.working.Task.{Task}
-use Rattle.eg_turns.specs.Midway.{Work, IsSet, IsMidway, Meets, step_at}
+use Rattle.eg_turns.specs.Inner.Midway.{step_at}
+use Rattle.eg_turns.specs.Midway.{Work, IsSet, IsMidway, Meets}
 use Rattle.eg_turns.proofs.MidwayLemmas.{slice-midway, module-midway}
 
 -- ---- a slice ----

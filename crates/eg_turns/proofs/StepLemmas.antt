@@ -10,7 +10,8 @@ use Rattle.eg_level2.specs.declared.step.Step.{Step}
 use Rattle.eg_level2.specs.Words.{Words}
 use Rattle.eg_level2.specs.Modules.{step_of, answer_after, order_after, found_by, answer_of, opens_now, debounced, no_watches, mirror_alone, finding, quiet_step}
 use Rattle.eg_level2.specs.Ticks.{Doing, inputs_for, after_modules, answer_at, orders_at, finds_at}
-use Rattle.eg_turns.specs.Midway.{step_at, found_in_both, joined, tick_step}
+use Rattle.eg_turns.specs.Inner.Midway.{step_at, found_in_both, joined}
+use Rattle.eg_turns.specs.Midway.{tick_step}
 
 -- ---- one module more ----
 

@@ -8,7 +8,8 @@ use Rattle.eg_fault.proofs.RunningLemmas.{Stops}
 use Rattle.eg_level2.specs.Inputs.{Level2Parts, IsPrepared, asked_of}
 use Rattle.eg_level2.specs.Modules.{quiet_step}
 use Rattle.eg_level2.specs.declared.step.Step.{Step}
-use Rattle.eg_turns.specs.Midway.{Work, IsMidway, IsReady, IsDue, IsTurn, RunLevels}
+use Rattle.eg_turns.specs.Inner.Midway.{IsTurn, RunLevels}
+use Rattle.eg_turns.specs.Midway.{Work, IsMidway, IsReady, IsDue}
 use Rattle.eg_host.specs.Level1.{Level1Parts}
 use Rattle.eg_turns.specs.declared.working.Task.{Task}
 use Rattle.eg_turns.proofs.MidwayLemmas.{idle-midway}

@@ -9,7 +9,8 @@ use Rattle.eg_fault.specs.Effects.{Effects}
 use Rattle.eg_level2.specs.Inputs.{Level2Parts}
 use Rattle.eg_level2.specs.Modules.{quiet_step}
 use Rattle.eg_level2.specs.declared.step.Step.{Step}
-use Rattle.eg_turns.specs.Midway.{Work, IsMidway, IsReady, IsDue, IsTurn, RunLevels, joined}
+use Rattle.eg_turns.specs.Inner.Midway.{IsTurn, RunLevels, joined}
+use Rattle.eg_turns.specs.Midway.{Work, IsMidway, IsReady, IsDue}
 use Rattle.eg_host.specs.Level1.{Level1Parts}
 use Rattle.eg_turns.specs.declared.working.Task.{Task}
 use Rattle.eg_turns.proofs.StepLemmas.{steps_at, steps-begin, steps-more, steps-all}

@@ -10,7 +10,8 @@ use Rattle.eg_level2.specs.Inputs.{Level2Parts, readings_of, asked_of}
 use Rattle.eg_level2.specs.Ticks.{after_modules, after_tick}
 use Rattle.eg_level2.specs.declared.step.Step.{Step}
 use Rattle.eg_turns.specs.Board.{is_board_own, by_tracks}
-use Rattle.eg_turns.specs.Midway.{Work, rest_of, IsMidway, IsDue, RunLevels}
+use Rattle.eg_turns.specs.Inner.Midway.{RunLevels}
+use Rattle.eg_turns.specs.Midway.{Work, rest_of, IsMidway, IsDue}
 use Rattle.eg_turns.specs.Working.{Holds, Works}
 use Rattle.eg_host.specs.Level1.{Level1Parts}
 use Rattle.eg_turns.specs.declared.working.Task.{Task}

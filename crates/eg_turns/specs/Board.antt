@@ -1,4 +1,4 @@
--- Outside the headline. What the board writes into the memory.
+-- What the board writes into the memory.
 use Rattle.std.specs.Prelude.{◌≡◌, ℕ, ◌+◌, ◌≤◌, ◌<◌, ◌⊎◌, Bool, true, false, List, [], ◌∷◌, ◌++◌, replicate, slice_index}
 use Rattle.eg_guard.specs.declared.regions.Region.{Region}
 use Rattle.eg_guard.specs.declared.regions.Region.TheVariants.{InPorts, Link}

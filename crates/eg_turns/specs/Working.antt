@@ -1,4 +1,4 @@
--- Outside the headline. What level 1 and level 2 make of the memory at a tick, and how they begin.
+-- What level 1 and level 2 make of the memory at a tick, and how they begin.
 use Rattle.std.specs.Prelude.{◌≡◌, ℕ, ◌<◌, List, length, slice_index, Result, OnOk, IfOk}
 use Rattle.eg_guard.specs.declared.regions.TheConstants.{DATA}
 use Rattle.eg_guard.specs.Memory.{ShownMemory, KeepsMemory}

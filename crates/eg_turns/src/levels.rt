@@ -13,8 +13,9 @@ ghost use Rattle.eg_level2.specs.Words.{words_of, AreMirrored, AreWithin};
 ghost use Rattle.eg_level2.specs.Inputs.{IsPrepared, asked_of};
 ghost use Rattle.eg_level2.specs.Modules.{quiet_step};
 ghost use Rattle.eg_fault.specs.Faults.{IsNoneOrValid};
-ghost use Rattle.eg_turns.specs.Midway;
-ghost use Rattle.eg_turns.specs.Midway.{Work, IsMidway, IsReady, IsTurn, RunLevels, Meets, step_at};
+ghost use Rattle.eg_turns.specs.Inner.Midway;
+ghost use Rattle.eg_turns.specs.Inner.Midway.{IsTurn, RunLevels, step_at};
+ghost use Rattle.eg_turns.specs.Midway.{Work, IsMidway, IsReady, Meets};
 
 use crate::board::flip;
 use crate::working::Task;
@@ -260,7 +261,7 @@ fn acting<const FAULTY: bool>(fault: Option<&Fault>) -> Option<&Fault>
 }
 
 /// What is ordered, answered and found by a step and by the next.
-#[tactic(auto, unfolding(crate::specs::Midway::joined, crate::specs::Midway::found_in_both))]
+#[tactic(auto, unfolding(crate::specs::Inner::Midway::joined, crate::specs::Inner::Midway::found_in_both))]
 fn joined(first: &Step, next: &Step) -> Step
     ensures { result ≡ Midway.joined first.now next.now }
 {

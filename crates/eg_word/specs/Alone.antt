@@ -1,5 +1,4 @@
--- Outside the headline. A step that loads and stores nothing, so that the program and the registers alone say
--- what it makes.
+-- A step that loads and stores nothing, so that the program and the registers alone say what it makes.
 use Rattle.std.specs.Prelude.{ℕ, Bool, true, false, if◌then◌else◌, nat_lt, List, slice_index_or, Option, Some, None}
 use Rattle.eg_guard.specs.declared.regions.TheConstants.{DATA}
 use Rattle.eg_word.specs.declared.registers.Registers.{Registers}

@@ -1,5 +1,4 @@
--- Outside the headline. The program of some words: the unit keeps the code decoded, beside the words of the
--- memory.
+-- The program of some words: the unit keeps the code decoded, beside the words of the memory.
 use Rattle.std.specs.Prelude.{◌≡◌, ℕ, ◌<◌, ◌≤◌, List, length, slice_index, slice_index_or}
 use Rattle.eg_guard.specs.declared.regions.TheConstants.{DATA}
 use Rattle.eg_word.specs.declared.instruction.Instruction.{Instruction}

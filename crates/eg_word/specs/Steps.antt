@@ -1,4 +1,4 @@
--- Outside the headline. What a call for one step keeps, as its contract says it.
+-- What a call for one step keeps, as its contract says it.
 use Rattle.std.specs.Prelude.{◌≡◌, Result, OnOk, OnErr}
 use Rattle.eg_guard.specs.Memory.{ShownMemory, SameOutside, KeepsMemory}
 use Rattle.eg_word.specs.declared.registers.Registers.{Registers}

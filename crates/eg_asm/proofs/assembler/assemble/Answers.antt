@@ -1,7 +1,7 @@
 use Rattle.std.proofs.Common.{arith, inl, inr}
 use Rattle.std.proofs.lemmas.List.{length-map}
 use Rattle.std.proofs.lemmas.Result.{err_from_is_err_and}
-use Rattle.eg_asm.specs.Kept.{placed_shown}
+use Rattle.eg_asm.specs.Inner.Kept.{placed_shown}
 use Rattle.eg_asm.proofs.ReadLemmas.{read-may}
 use Rattle.eg_asm.proofs.AssembleLemmas.{read-fault, linked-answer, answer-words, answer-faults}
 use Rattle.eg_asm.proofs.assembler.assemble.Goals as goal

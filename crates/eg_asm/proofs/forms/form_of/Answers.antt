@@ -1,7 +1,7 @@
 use Rattle.std.proofs.Common.{◌∙◌, sym, refl}
-use Rattle.eg_asm.specs.Rows.{form_in}
+use Rattle.eg_asm.specs.Inner.Rows.{form_in}
 use Rattle.eg_asm.specs.Listings.{is_of, form_of}
-use Rattle.eg_asm.specs.Usable.{is_usable}
+use Rattle.eg_asm.specs.Inner.Usable.{is_usable}
 use Rattle.eg_asm.proofs.FormLemmas.{find-here, find-nowhere}
 use Rattle.eg_asm.proofs.forms.form_of.Goals as goal
 

@@ -1,7 +1,7 @@
 use Rattle.std.proofs.Common.{◌≡◌, drop, map}
 use Rattle.std.specs.Prelude.{find}
 use Rattle.eg_asm.specs.Forms.{forms}
-use Rattle.eg_asm.specs.Rows.{form_in}
+use Rattle.eg_asm.specs.Inner.Rows.{form_in}
 use Rattle.eg_asm.specs.Listings.{is_of}
 use Rattle.eg_asm.proofs.forms.form_of.Given as goal
 

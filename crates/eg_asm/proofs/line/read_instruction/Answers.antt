@@ -1,9 +1,9 @@
 use Rattle.std.proofs.Common.{◌≡◌, ◌∙◌, ap, Some, None, arith, option_map}
 use Rattle.std.proofs.lemmas.Grind.{common_steps}
 use Rattle.std.specs.List.{before_first}
-use Rattle.eg_asm.specs.Rows.{form_in}
+use Rattle.eg_asm.specs.Inner.Rows.{form_in}
 use Rattle.eg_asm.specs.Forms.{form_named}
-use Rattle.eg_asm.specs.Encodings.{encoding_shown, encoded, Instruction}
+use Rattle.eg_asm.specs.Inner.Encodings.{encoding_shown, encoded, Instruction}
 use Rattle.eg_asm.specs.Reading.{is_byte, texts_in, values_of, behind_first}
 use Rattle.eg_asm.proofs.FormLemmas.{form_named-few}
 use Rattle.eg_asm.proofs.FitsLemmas.{read-fits, room_is}

@@ -3,7 +3,7 @@ use Rattle.std.specs.Prelude.{is_some}
 use Rattle.std.specs.Option.{option_copied}
 use Rattle.std.proofs.lemmas.Grind.{common_steps}
 use Rattle.eg_asm.specs.declared.operand.Operand.TheVariants.{Register}
-use Rattle.eg_asm.specs.Encodings.{encoding_shown, with_operand}
+use Rattle.eg_asm.specs.Inner.Encodings.{encoding_shown, with_operand}
 use Rattle.eg_asm.specs.Reading.{value_of, is_byte}
 use Rattle.std.specs.List.{before_first}
 use Rattle.eg_asm.proofs.OperandLemmas.{added_from, added-more, added-bad, added-missing, added-past, added-all}

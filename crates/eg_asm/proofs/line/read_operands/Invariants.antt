@@ -1,7 +1,7 @@
 use Rattle.std.proofs.Common.{◌≡◌, ◌+◌, ◌*◌, ◌<◌, option_map}
 use Rattle.std.specs.Option.{option_copied}
-use Rattle.eg_asm.specs.Rows.{form_in}
-use Rattle.eg_asm.specs.Encodings.{encoded, encoding_shown}
+use Rattle.eg_asm.specs.Inner.Rows.{form_in}
+use Rattle.eg_asm.specs.Inner.Encodings.{encoded, encoding_shown}
 use Rattle.eg_asm.specs.Reading.{values_of, texts_in}
 use Rattle.eg_asm.proofs.OperandLemmas.{added_from}
 use Rattle.eg_asm.proofs.line.read_operands.Given as goal

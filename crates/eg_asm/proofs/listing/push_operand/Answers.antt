@@ -5,7 +5,7 @@ use Rattle.std.proofs.lemmas.Result.{on_ok_weaker}
 use Rattle.eg_asm.specs.Numerals.{numeral}
 use Rattle.eg_asm.specs.Grammar.{text_of_value}
 use Rattle.eg_asm.specs.Listings.{value_in}
-use Rattle.eg_asm.specs.Usable.{is_usable}
+use Rattle.eg_asm.specs.Inner.Usable.{is_usable}
 use Rattle.eg_asm.proofs.listing.push_operand.Goals as goal
 
 pub nonzero_div-word : goal.nonzero_div-word

@@ -1,7 +1,7 @@
 use Rattle.std.proofs.Common.{◌≡◌, ◌∙◌, sym, ap, Some, None, arith}
 use Rattle.std.specs.Prelude.{option_and_then}
 use Rattle.std.proofs.lemmas.Grind.{common_steps}
-use Rattle.eg_asm.specs.Encodings.{told_with_room}
+use Rattle.eg_asm.specs.Inner.Encodings.{told_with_room}
 use Rattle.eg_asm.proofs.ToldLemmas.{told-behind}
 use Rattle.eg_asm.proofs.source.line_behind.Goals as goal
 

@@ -1,7 +1,7 @@
 use Rattle.std.proofs.Common.{◌≡◌, ◌∙◌, ◌*◌, ◌/◌, Some, refl, sym, subst, not, ◌==◌, arith}
 use Rattle.eg_campaign.specs.Plays.{run_with}
 use Rattle.eg_campaign.specs.Groups.{faultless, checkpoint_ticks, input_under}
-use Rattle.eg_campaign.specs.Checkpoints.{HasPlayed, IsKept}
+use Rattle.eg_campaign.specs.Inner.Checkpoints.{HasPlayed, IsKept}
 use Rattle.eg_campaign.proofs.CheckpointLemmas.{kept_under, played_under}
 use Rattle.eg_campaign.proofs.checkpoints.begin_from.Goals as goal
 

@@ -3,7 +3,7 @@ use Rattle.eg_fault.specs.Faults.{IsNoneOrValid}
 use Rattle.eg_guard.specs.Memory.{ShownMemory}
 use Rattle.eg_model.specs.Bench.{Run}
 use Rattle.eg_campaign.specs.declared.checkpoints.Played.{Played}
-use Rattle.eg_campaign.specs.Checkpoints.{HasPlayed}
+use Rattle.eg_campaign.specs.Inner.Checkpoints.{HasPlayed}
 use Rattle.eg_campaign.proofs.CheckpointLemmas.{kept_more, branched_at, without-is}
 use Rattle.eg_campaign.proofs.checkpoints.keep_copy.Goals as goal
 

@@ -2,7 +2,7 @@ use Rattle.std.proofs.Common.{refl, subst, not, ◌==◌}
 use Rattle.eg_model.specs.Bench.{Run}
 use Rattle.eg_campaign.specs.Plays.{run_with}
 use Rattle.eg_campaign.specs.Groups.{input_under}
-use Rattle.eg_campaign.specs.Checkpoints.{HasPlayed}
+use Rattle.eg_campaign.specs.Inner.Checkpoints.{HasPlayed}
 use Rattle.eg_campaign.proofs.CheckpointLemmas.{made_all}
 use Rattle.eg_campaign.proofs.checkpoints.play_alone.Goals as goal
 

@@ -8,7 +8,7 @@ use Rattle.eg_tick.proofs.BranchedRuns.{told_under}
 use Rattle.eg_tick.specs.Counting.{count_with}
 use Rattle.eg_campaign.specs.Plays.{run_with}
 use Rattle.eg_campaign.specs.Groups.{faultless, checkpoint_ticks, input_under, own_under}
-use Rattle.eg_campaign.specs.Checkpoints.{HasMade, HasPlayed}
+use Rattle.eg_campaign.specs.Inner.Checkpoints.{HasMade, HasPlayed}
 use Rattle.eg_campaign.proofs.CheckpointLemmas.{counted_none, never_begins, makes_none, made_in_time, rows-are}
 use Rattle.eg_campaign.proofs.checkpoints.play_from.Goals as goal
 

@@ -1,5 +1,5 @@
 use Rattle.std.proofs.Common.{◌≡◌, ◌∙◌, ◌≤◌, sym, ap, subst, length, arith, not, ◌==◌}
-use Rattle.eg_campaign.specs.Checkpoints.{HasMade}
+use Rattle.eg_campaign.specs.Inner.Checkpoints.{HasMade}
 use Rattle.eg_campaign.proofs.CheckpointLemmas.{made_none}
 use Rattle.eg_campaign.proofs.checkpoints.play_on.Goals as goal
 

@@ -1,6 +1,6 @@
 use Rattle.std.proofs.Common.{IsTrue, not, ◌==◌}
 use Rattle.eg_model.specs.Bench.{Run}
-use Rattle.eg_campaign.specs.Checkpoints.{PlaysInput, HasPlayed, HasMade}
+use Rattle.eg_campaign.specs.Inner.Checkpoints.{PlaysInput, HasPlayed, HasMade}
 use Rattle.eg_campaign.proofs.checkpoints.play_on.Given as goal
 
 -- the ticks so far were played and counted, over a sure memory

@@ -3,7 +3,7 @@ use Rattle.eg_fault.specs.Faults.{IsNoneOrValid}
 use Rattle.eg_model.specs.Bench.{Run}
 use Rattle.eg_campaign.specs.Plays.{run_with}
 use Rattle.eg_campaign.specs.Groups.{faultless}
-use Rattle.eg_campaign.specs.Checkpoints.{HasMade, AreCheckpoints}
+use Rattle.eg_campaign.specs.Inner.Checkpoints.{HasMade, AreCheckpoints}
 use Rattle.eg_tick.proofs.CountLemmas.{counted_err, long}
 use Rattle.eg_campaign.proofs.OneGroup.{out_none}
 use Rattle.eg_campaign.proofs.CheckpointLemmas.{made_none, made_front, made_all, kept_none}

@@ -2,7 +2,7 @@ use Rattle.std.proofs.Common.{IsTrue, not, ◌==◌}
 use Rattle.eg_model.specs.Bench.{Run}
 use Rattle.eg_campaign.specs.Plays.{run_with}
 use Rattle.eg_campaign.specs.Groups.{faultless}
-use Rattle.eg_campaign.specs.Checkpoints.{HasMade, AreCheckpoints}
+use Rattle.eg_campaign.specs.Inner.Checkpoints.{HasMade, AreCheckpoints}
 use Rattle.eg_campaign.proofs.checkpoints.share.Given as goal
 
 -- the ticks so far of the run without a fault are played and counted, over a sure memory, and it is kept at the

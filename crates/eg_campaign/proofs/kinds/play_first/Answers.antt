@@ -8,7 +8,7 @@ use Rattle.eg_plan.specs.declared.run_input.RunInput.{RunInput}
 use Rattle.eg_tick.specs.Counting.{count_with, AreCounted}
 use Rattle.eg_model.specs.EngineRuns.{rows_in_time}
 use Rattle.eg_campaign.specs.Groups.{is_alike, group_of, rows_of_group, told_by, written_over}
-use Rattle.eg_campaign.specs.Keys.{is_alike-equality}
+use Rattle.eg_campaign.specs.Inner.Keys.{is_alike-equality}
 use Rattle.eg_campaign.proofs.LeaderLemmas.{one_item, leader-at, count-led}
 use Rattle.eg_campaign.proofs.AllGroups.{alone, written_alone, shared_rows, written_by}
 use Rattle.eg_campaign.proofs.kinds.play_first.Goals as goal

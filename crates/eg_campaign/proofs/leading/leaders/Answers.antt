@@ -1,7 +1,7 @@
 use Rattle.std.proofs.Common.{◌≡◌, ◌∙◌, sym, ap, ap₂, length, arith, List, ℕ, [], ◌∷◌, ◌++◌}
 use Rattle.std.specs.HashMap.{get}
 use Rattle.eg_campaign.specs.Groups.{leader_in}
-use Rattle.eg_campaign.specs.Keys.{is_same_key}
+use Rattle.eg_campaign.specs.Inner.Keys.{is_same_key}
 use Rattle.eg_campaign.proofs.PlayLemmas.{map-more}
 use Rattle.eg_campaign.proofs.LeaderLemmas.{leader-alone, leader-found, found-in-key, found-next}
 use Rattle.eg_campaign.proofs.leading.leaders.Goals as goal

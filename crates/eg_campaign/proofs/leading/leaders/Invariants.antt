@@ -3,7 +3,7 @@ use Rattle.std.specs.Prelude.{if◌then◌else◌}
 use Rattle.std.specs.HashMap.{get}
 use Rattle.eg_campaign.specs.declared.key.GroupKey.{GroupKey}
 use Rattle.eg_campaign.specs.Groups.{leader_in}
-use Rattle.eg_campaign.specs.Keys.{group_number, is_same_key}
+use Rattle.eg_campaign.specs.Inner.Keys.{group_number, is_same_key}
 use Rattle.eg_campaign.proofs.leading.leaders.Given as goal
 
 -- of the runs so far each has its leader, and the map finds it by a key

@@ -1,5 +1,5 @@
 use Rattle.std.proofs.Common.{not, ◌==◌}
-use Rattle.eg_campaign.specs.Checkpoints.{AreFor}
+use Rattle.eg_campaign.specs.Inner.Checkpoints.{AreFor}
 use Rattle.eg_campaign.proofs.AllGroups.{Goes}
 use Rattle.eg_campaign.proofs.play.told_all.Given as goal
 

@@ -1,7 +1,7 @@
 use Rattle.std.proofs.Common.{rules, refl, sym, ap, subst, ◌/◌, ◌<◌, length, arith}
 use Rattle.std.specs.Option.{option_copied}
 use Rattle.eg_fault.specs.Faults.{IsNoneOrValid, IsValid}
-use Rattle.eg_campaign.specs.Checkpoints.{IsWantedFor}
+use Rattle.eg_campaign.specs.Inner.Checkpoints.{IsWantedFor}
 use Rattle.eg_campaign.proofs.CheckpointLemmas.{wants_here}
 use Rattle.eg_campaign.proofs.wanted.want.Goals as goal
 

@@ -1,4 +1,4 @@
-use Rattle.eg_campaign.specs.Checkpoints.{AreWantedIn}
+use Rattle.eg_campaign.specs.Inner.Checkpoints.{AreWantedIn}
 use Rattle.eg_campaign.proofs.wanted.wanted_in.Given as goal
 
 -- what the runs of the group among the inputs so far want is wanted

@@ -2,7 +2,7 @@ use Rattle.std.proofs.Common.{sym, subst, get_or, take, All, Some}
 use Rattle.std.proofs.lemmas.List.{take_all}
 use Rattle.eg_fault.specs.declared.class.Fault.{Fault}
 use Rattle.eg_fault.specs.Faults.{IsNoneOrValid, IsValid}
-use Rattle.eg_campaign.specs.Checkpoints.{IsWantedFor}
+use Rattle.eg_campaign.specs.Inner.Checkpoints.{IsWantedFor}
 use Rattle.eg_campaign.proofs.PlayLemmas.{all-more}
 use Rattle.eg_campaign.proofs.wanted.wanted_under.Goals as goal
 

@@ -1,5 +1,5 @@
 use Rattle.std.proofs.Common.{All, Some, take}
-use Rattle.eg_campaign.specs.Checkpoints.{IsWantedFor}
+use Rattle.eg_campaign.specs.Inner.Checkpoints.{IsWantedFor}
 use Rattle.eg_campaign.proofs.wanted.wanted_under.Given as goal
 
 -- what runs under the faults so far want is wanted

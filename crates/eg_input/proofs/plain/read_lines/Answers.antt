@@ -1,7 +1,7 @@
 use Rattle.std.proofs.Common.{rules, ◌≡◌, ◌∙◌, ap, List, ◌∷◌, ◌++◌, ◌+◌, [], arith, subst}
 use Rattle.std.proofs.lemmas.Grind.{common_steps}
 use Rattle.eg_input.specs.Records.{Record}
-use Rattle.eg_input.specs.Plain.{BeginsWithRow, records_below}
+use Rattle.eg_input.specs.Inner.Plain.{BeginsWithRow, records_below}
 use Rattle.eg_input.proofs.Seen.{Seen, seen-more, seen-read}
 use Rattle.eg_input.proofs.LineOfNumbers.{no-records}
 use Rattle.eg_input.proofs.plain.read_lines.Goals as goal

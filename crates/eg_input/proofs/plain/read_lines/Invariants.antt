@@ -1,4 +1,4 @@
-use Rattle.eg_input.specs.Plain.{records_below}
+use Rattle.eg_input.specs.Inner.Plain.{records_below}
 use Rattle.eg_input.proofs.Seen.{Seen}
 use Rattle.eg_input.proofs.plain.read_lines.Given as goal
 

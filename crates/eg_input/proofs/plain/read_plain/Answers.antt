@@ -1,5 +1,5 @@
 use Rattle.std.proofs.Common.{rules}
-use Rattle.eg_input.specs.Plain.{BeginsWithHeader}
+use Rattle.eg_input.specs.Inner.Plain.{BeginsWithHeader}
 use Rattle.eg_input.proofs.LineOfNumbers.{below-header}
 use Rattle.eg_input.proofs.plain.read_plain.Goals as goal
 

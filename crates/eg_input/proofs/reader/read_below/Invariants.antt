@@ -1,6 +1,6 @@
 use Rattle.std.proofs.Common.{List}
 use Rattle.eg_input.specs.Records.{Record}
-use Rattle.eg_input.specs.Unread.{HasUnread}
+use Rattle.eg_input.specs.Inner.Unread.{HasUnread}
 use Rattle.eg_input.proofs.Seen.{Seen}
 use Rattle.eg_input.proofs.reader.read_below.Given as goal
 

@@ -2,7 +2,7 @@ use Rattle.std.proofs.Common.{◌∙◌, ap, inl, inr, Some}
 use Rattle.csv.specs.Machine.{ends_at_end}
 use Rattle.csv.specs.Reading.{ChangesHeaders, builder_config, builder_is_flexible, builder_names_headers, builder_trim, reader_state, source_of, strip_bom}
 use Rattle.eg_input.specs.Records.{records_of}
-use Rattle.eg_input.specs.Unread.{records_after}
+use Rattle.eg_input.specs.Inner.Unread.{records_after}
 use Rattle.eg_input.proofs.reader.reader_of.Goals as goal
 
 pub returns-in-Ok-clause-reader : goal.returns-in-Ok-clause-reader

@@ -1,7 +1,7 @@
 use Rattle.std.proofs.Common.{refl}
 use Rattle.eg_level2.specs.Words.{named}
 use Rattle.eg_level2.specs.Modules.{pedal_bit, plate_bit, load_bit, speed_bit, torque_bit}
-use Rattle.eg_level2.specs.Stores.{feeds_of}
+use Rattle.eg_level2.specs.Inner.Stores.{feeds_of}
 use Rattle.eg_level2.proofs.debounce.feed_all.Goals as goal
 
 pub returns : goal.returns

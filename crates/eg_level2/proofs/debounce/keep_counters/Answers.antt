@@ -1,4 +1,4 @@
-use Rattle.eg_level2.specs.Stores.{counting}
+use Rattle.eg_level2.specs.Inner.Stores.{counting}
 use Rattle.eg_level2.proofs.MakesLemmas.{in_turn, early}
 use Rattle.eg_level2.proofs.debounce.keep_counters.Goals as goal
 

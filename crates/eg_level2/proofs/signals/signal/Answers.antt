@@ -1,6 +1,6 @@
 use Rattle.std.proofs.Common.{refl}
 use Rattle.eg_level2.specs.Words.{named}
-use Rattle.eg_level2.specs.Stores.{signal_of}
+use Rattle.eg_level2.specs.Inner.Stores.{signal_of}
 use Rattle.eg_level2.proofs.signals.signal.Goals as goal
 
 pub returns-in-1 : goal.returns-in-1

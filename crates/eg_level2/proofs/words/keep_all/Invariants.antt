@@ -3,7 +3,8 @@ use Rattle.std.specs.Prelude.{Result}
 use Rattle.eg_base.specs.declared.no_memory.NoMemory.{NoMemory}
 use Rattle.eg_guard.specs.Memory.{ShownMemory}
 use Rattle.eg_level2.specs.Words.{word_at}
-use Rattle.eg_level2.specs.Stores.{both_from, Makes}
+use Rattle.eg_level2.specs.Inner.Stores.{Makes}
+use Rattle.eg_level2.specs.Stores.{both_from}
 use Rattle.eg_level2.proofs.StoreLemmas.{MirrorBelow}
 use Rattle.eg_level2.proofs.words.keep_all.Given as goal
 

@@ -1,7 +1,7 @@
 use Rattle.std.proofs.Common.{◌≡◌, ◌+◌, ◌++◌, [], drop, vec_len}
 use Rattle.toml.specs.View.{items_view}
 use Rattle.eg_plan.specs.Campaign.{runs_of, runs_refusal}
-use Rattle.eg_plan.specs.Names.{AreNamesOf}
+use Rattle.eg_plan.specs.Inner.Names.{AreNamesOf}
 use Rattle.eg_plan.proofs.reader.runs_in.Given as goal
 
 abbrev pub invariant-loop-item : goal.invariant-loop-item

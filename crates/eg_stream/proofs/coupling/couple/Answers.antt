@@ -10,7 +10,7 @@ use Rattle.eg_tick.specs.Weights.{TickCount}
 use Rattle.eg_tick.proofs.CountLemmas.{counts_none}
 use Rattle.eg_outcome.specs.Changes.{change}
 use Rattle.eg_stream.specs.Coupled.{CoupledUnit, unit_of}
-use Rattle.eg_stream.specs.Running.{IsCoupled, AnswerComes}
+use Rattle.eg_stream.specs.Inner.Running.{IsCoupled, AnswerComes}
 use Rattle.eg_stream.proofs.CouplingLemmas.{HasMade, taken-is_lawful, none-made, made-more, header-put, first-put, row-put, ends-as, ends-done, ends-unread, ends-in_turn, ends-full, header-refused, first-refused, row-refused}
 use Rattle.eg_stream.proofs.coupling.couple.Goals as goal
 

@@ -8,7 +8,7 @@ use Rattle.eg_replay.specs.declared.tick_signals.TickSignals.{TickSignals}
 use Rattle.eg_replay.specs.Tallies.{IsTallyOf}
 use Rattle.eg_replay.specs.Replay.{replayed, told_of, told_after}
 use Rattle.eg_stream.specs.Recordings.{Measured, replay_in}
-use Rattle.eg_stream.specs.Reading.{FindingsCome, RecordingGoesOn}
+use Rattle.eg_stream.specs.Inner.Reading.{FindingsCome, RecordingGoesOn}
 use Rattle.eg_stream.proofs.StreamLemmas.{handed_on, none-written}
 use Rattle.eg_stream.proofs.MeasuringLemmas.{HasRead, ends-at_begin, read-first, ends-in_turn, read-more, stops-early, by_ticks, ends-empty, findings-come, told-none, told-more}
 use Rattle.eg_stream.proofs.measuring.find.Goals as goal

@@ -7,7 +7,7 @@ use Rattle.eg_input.specs.declared.columns.Columns.{Columns}
 use Rattle.eg_input.specs.declared.recorded.Recorded.{Recorded}
 use Rattle.eg_replay.specs.Replay.{told_after}
 use Rattle.eg_stream.specs.Recordings.{signals_in, signals_so_far, signals_work, RecordingEnds}
-use Rattle.eg_stream.specs.Reading.{RecordingGoesOn}
+use Rattle.eg_stream.specs.Inner.Reading.{RecordingGoesOn}
 use Rattle.eg_stream.proofs.StreamLemmas.{handed_on}
 use Rattle.eg_stream.proofs.MeasuringLemmas.{HasRead, ends-at_begin, header-refused, read-first, header-written, ends-in_turn, read-more, row-written, row-refused, stops-early, by_ticks, ends-empty, signals-ends}
 use Rattle.eg_stream.proofs.measuring.put_signals.Goals as goal

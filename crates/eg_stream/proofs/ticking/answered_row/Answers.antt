@@ -2,7 +2,7 @@ use Rattle.std.proofs.Common.{◌≡◌, ◌∙◌, ap, sym, subst, List, ◌%�
 use Rattle.std.specs.Prelude.{slice_index_or}
 use Rattle.eg_plant.specs.Engine.{KeepsLaws}
 use Rattle.eg_stream.specs.Coupled.{CoupledUnit}
-use Rattle.eg_stream.specs.Running.{IsCoupled}
+use Rattle.eg_stream.specs.Inner.Running.{IsCoupled}
 use Rattle.eg_input.specs.declared.answered.PartnerAnswer.{PartnerAnswer}
 use Rattle.eg_stream.proofs.TakenLemmas.{taken-lawful}
 use Rattle.eg_stream.proofs.TickingLemmas.{coupled-then, row-is}

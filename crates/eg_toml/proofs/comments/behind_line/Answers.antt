@@ -2,7 +2,7 @@ use Rattle.std.proofs.Common.{◌≡◌, ◌∙◌, ◌<◌, ◌∷◌, ap, sym,
 use Rattle.std.proofs.lemmas.Bool.Decides.{nat_tests}
 use Rattle.std.proofs.lemmas.Grind.{common_steps}
 use Rattle.std.proofs.lemmas.List.{drop_more}
-use Rattle.eg_toml.specs.Comments.{IsKeptBy}
+use Rattle.eg_toml.specs.Inner.Comments.{IsKeptBy}
 use Rattle.eg_toml.proofs.WeightLemmas.{slice_from}
 use Rattle.eg_toml.proofs.CommentLemmas.{line_feed-over}
 use Rattle.eg_toml.proofs.comments.behind_line.Goals as goal

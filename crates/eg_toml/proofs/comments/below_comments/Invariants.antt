@@ -1,5 +1,5 @@
 use Rattle.std.proofs.Common.{◌≡◌, length}
-use Rattle.eg_toml.specs.Comments.{IsKeptBy}
+use Rattle.eg_toml.specs.Inner.Comments.{IsKeptBy}
 use Rattle.eg_toml.specs.Weight.{weight_of}
 use Rattle.eg_toml.proofs.comments.below_comments.Given as goal
 

@@ -1,6 +1,6 @@
 use Rattle.std.proofs.Common.{◌≡◌, ◌∙◌, sym, refl, Some, arith}
 use Rattle.eg_asm.specs.declared.operand.Operand.TheVariants.{Register}
-use Rattle.eg_asm.specs.Rows.{form_in}
+use Rattle.eg_asm.specs.Inner.Rows.{form_in}
 use Rattle.eg_asm.specs.Words.{word_with}
 use Rattle.eg_asm.specs.Listings.{is_of, values_in}
 use Rattle.eg_asm.proofs.ListingLemmas.{usable-at, listed-more, listed-end}

@@ -1,5 +1,5 @@
 use Rattle.std.proofs.Common.{◌≡◌, ◌+◌, ◌*◌, ◌<◌, [], drop, map, option_map}
-use Rattle.eg_asm.specs.Rows.{form_in}
+use Rattle.eg_asm.specs.Inner.Rows.{form_in}
 use Rattle.eg_asm.specs.Words.{fields_of, word_with}
 use Rattle.eg_asm.specs.Listings.{value_in, values_in}
 use Rattle.eg_asm.proofs.form.FormRow.is_of.Given as goal

@@ -1,6 +1,6 @@
 use Rattle.std.proofs.Common.{mod-lt, sym, refl, ◌<◌, ◌*◌, ◌%◌, arith}
 use Rattle.std.proofs.lemmas.Bool.Decides.{nat_tests}
-use Rattle.eg_asm.specs.Usable.{is_usable}
+use Rattle.eg_asm.specs.Inner.Usable.{is_usable}
 use Rattle.eg_asm.specs.Words.{field_of, distance_to}
 use Rattle.eg_asm.specs.Listings.{value_in}
 use Rattle.eg_asm.proofs.ListingLemmas.{complement-signed}

@@ -1,5 +1,5 @@
 use Rattle.std.proofs.Common.{◌∙◌, ap}
-use Rattle.eg_asm.specs.Encodings.{line_shown}
+use Rattle.eg_asm.specs.Inner.Encodings.{line_shown}
 use Rattle.eg_asm.proofs.KeepsLemmas.{keeps-nothing}
 use Rattle.eg_asm.proofs.source.Source.add.Goals as goal
 

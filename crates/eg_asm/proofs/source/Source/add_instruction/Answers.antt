@@ -1,7 +1,7 @@
 use Rattle.std.proofs.Common.{◌≡◌, ◌∙◌, ap, ◌∷◌, ◌++◌, [], ◌+◌, length, map}
 use Rattle.std.proofs.lemmas.List.{map-append}
-use Rattle.eg_asm.specs.Kept.{placed_shown}
-use Rattle.eg_asm.specs.Encodings.{instruction_shown}
+use Rattle.eg_asm.specs.Inner.Kept.{placed_shown}
+use Rattle.eg_asm.specs.Inner.Encodings.{instruction_shown}
 use Rattle.eg_asm.proofs.KeepsLemmas.{keeps-instruction}
 use Rattle.eg_asm.proofs.source.Source.add_instruction.Goals as goal
 

@@ -3,7 +3,7 @@ use Rattle.std.specs.HashMap.{get}
 use Rattle.std.specs.Option.{option_or}
 use Rattle.std.specs.Str.{bytes_eq}
 use Rattle.std.proofs.lemmas.List.{length-map}
-use Rattle.eg_asm.specs.Kept.{placed_shown}
+use Rattle.eg_asm.specs.Inner.Kept.{placed_shown}
 use Rattle.eg_asm.proofs.KeepsLemmas.{keeps-again, keeps-new}
 use Rattle.eg_asm.proofs.source.Source.add_label.Goals as goal
 

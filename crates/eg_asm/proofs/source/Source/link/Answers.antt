@@ -1,8 +1,8 @@
 use Rattle.std.proofs.Common.{◌≡◌, ◌∙◌, refl, sym, ap, ℕ, ◌+◌, ◌<◌, ◌≤◌, List, [], ◌∷◌, ◌++◌, length, drop, get_or, map, Some, None, inr, arith, append_assoc, append-nil}
 use Rattle.std.proofs.lemmas.Grind.{common_steps}
 use Rattle.std.proofs.lemmas.List.{length-map, get_or-map}
-use Rattle.eg_asm.specs.Kept.{placed_shown}
-use Rattle.eg_asm.specs.Linking.{completed, unresolved, completed_words, earlier, words_unless, linked_kept}
+use Rattle.eg_asm.specs.Inner.Kept.{placed_shown}
+use Rattle.eg_asm.specs.Inner.Linking.{completed, unresolved, completed_words, earlier, words_unless, linked_kept}
 use Rattle.eg_asm.proofs.LinkLemmas.{link-more, link-bad, link-end}
 use Rattle.eg_asm.proofs.source.Source.link.Goals as goal
 

@@ -1,7 +1,7 @@
 use Rattle.std.proofs.Common.{◌≡◌, ◌++◌, drop, map}
 use Rattle.eg_asm.specs.Words.{Labels}
-use Rattle.eg_asm.specs.Kept.{placed_shown}
-use Rattle.eg_asm.specs.Linking.{unresolved, completed_words, HasLabels}
+use Rattle.eg_asm.specs.Inner.Kept.{placed_shown}
+use Rattle.eg_asm.specs.Inner.Linking.{unresolved, completed_words, HasLabels}
 use Rattle.eg_asm.proofs.source.Source.link.Given as goal
 
 -- the instructions before have these words, and none of them is without one

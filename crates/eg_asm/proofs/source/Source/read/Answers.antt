@@ -2,8 +2,8 @@ use Rattle.std.proofs.Common.{◌≡◌, Some, arith, option_map}
 use Rattle.std.proofs.lemmas.List.{length-map}
 use Rattle.std.proofs.lemmas.Result.{on_ok_weaker}
 use Rattle.eg_asm.specs.Words.{word_count}
-use Rattle.eg_asm.specs.Encodings.{told, line_shown}
-use Rattle.eg_asm.specs.Kept.{placed_shown}
+use Rattle.eg_asm.specs.Inner.Encodings.{told, line_shown}
+use Rattle.eg_asm.specs.Inner.Kept.{placed_shown}
 use Rattle.eg_asm.specs.Reading.{item_behind}
 use Rattle.eg_asm.proofs.ReadLemmas.{told-some, behind-has_form}
 use Rattle.eg_asm.proofs.source.Source.read.Goals as goal

@@ -1,6 +1,6 @@
 use Rattle.std.proofs.Common.{◌≡◌, ◌∙◌, ap, arith}
 use Rattle.std.proofs.lemmas.Grind.{common_steps}
-use Rattle.eg_base.specs.NamedFiles.{files_of}
+use Rattle.eg_base.specs.Inner.NamedFiles.{files_of}
 use Rattle.eg_base.proofs.NamedFilesLemmas.{found-get}
 use Rattle.eg_base.proofs.named_files.NamedFiles.get.Goals as goal
 

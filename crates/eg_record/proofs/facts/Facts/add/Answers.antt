@@ -5,7 +5,7 @@ use Rattle.eg_record.specs.Detection.{detected_at}
 use Rattle.eg_record.specs.declared.facts.Facts.{Facts}
 use Rattle.eg_record.specs.Excess.{above}
 use Rattle.eg_record.specs.Stages.{off_at}
-use Rattle.eg_record.specs.RowMore.{facts_with}
+use Rattle.eg_record.specs.Inner.RowMore.{facts_with}
 use Rattle.eg_record.proofs.GivenLemmas.{option_or-none}
 use Rattle.eg_record.proofs.facts.Facts.add.Goals as goal
 

@@ -1,7 +1,7 @@
 use Rattle.std.proofs.Common.{◌≡◌, ◌∙◌, ◌+◌, ◌∷◌, List, sym, ap, subst, arith}
 use Rattle.eg_record.specs.declared.row.Row.{Row}
 use Rattle.eg_record.specs.declared.facts.Facts.{Facts}
-use Rattle.eg_record.specs.RowMore.{lasts_with, facts_with}
+use Rattle.eg_record.specs.Inner.RowMore.{lasts_with, facts_with}
 use Rattle.eg_record.specs.Tallies.{TallyParts, IsTallyOf}
 use Rattle.eg_record.proofs.StretchLemmas.{lasts_with-by, lasts_with-none, lasts_with-few}
 use Rattle.eg_record.proofs.TallyLemmas.{IsFed, fed_tally}

@@ -1,7 +1,7 @@
 use Rattle.std.proofs.Common.{◌∙◌, ap}
 use Rattle.eg_record.specs.Tallies.{TallyParts}
 use Rattle.eg_record.specs.Reactions.{combined}
-use Rattle.eg_record.specs.RowMore.{span_reactions}
+use Rattle.eg_record.specs.Inner.RowMore.{span_reactions}
 use Rattle.eg_record.proofs.TallyLemmas.{tally_tells}
 use Rattle.eg_record.proofs.tally.Tally.reactions.Goals as goal
 

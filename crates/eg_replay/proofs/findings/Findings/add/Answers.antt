@@ -1,5 +1,5 @@
 use Rattle.std.proofs.Common.{◌∙◌, ap, max}
-use Rattle.eg_replay.specs.TickMore.{greater_counters, surplus_with, found_with, findings_with}
+use Rattle.eg_replay.specs.Inner.TickMore.{greater_counters, surplus_with, found_with, findings_with}
 use Rattle.eg_replay.specs.declared.findings.Findings.{Findings}
 use Rattle.eg_replay.proofs.findings.Findings.add.Goals as goal
 

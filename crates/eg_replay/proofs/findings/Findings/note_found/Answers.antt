@@ -1,7 +1,7 @@
 use Rattle.std.proofs.Common.{◌≡◌, ◌∙◌, sym, ap, false, arith}
 use Rattle.std.proofs.lemmas.Grind.{common_steps}
 use Rattle.eg_record.specs.Detection.{is_trip}
-use Rattle.eg_replay.specs.TickMore.{first_with, found_with}
+use Rattle.eg_replay.specs.Inner.TickMore.{first_with, found_with}
 use Rattle.eg_replay.proofs.TallyLemmas.{nothing-found}
 use Rattle.eg_replay.proofs.findings.Findings.note_found.Goals as goal
 

@@ -1,6 +1,6 @@
 use Rattle.std.proofs.Common.{◌∙◌, ◌+◌, ◌∷◌, sym, ap, subst, arith}
 use Rattle.eg_replay.specs.declared.findings.Findings.{Findings}
-use Rattle.eg_replay.specs.TickMore.{findings_with}
+use Rattle.eg_replay.specs.Inner.TickMore.{findings_with}
 use Rattle.eg_replay.specs.Tallies.{TallyParts, IsTallyOf}
 use Rattle.eg_replay.proofs.TallyLemmas.{lasts-few, fed_tally}
 use Rattle.eg_replay.proofs.tally.Tally.feed.Goals as goal

@@ -1,4 +1,4 @@
--- Outside the headline. What level 1 and level 2 are handed at a tick of a run, and what comes of it.
+-- What level 1 and level 2 are handed at a tick of a run, and what comes of it.
 use Rattle.std.specs.Prelude.{◌≡◌, ℕ, ◌+◌, ◌<◌, Option, List, ◌∷◌, length}
 use Rattle.eg_fault.specs.declared.class.Fault.{Fault}
 use Rattle.eg_fault.specs.Effects.{asked_at}

@@ -1,4 +1,4 @@
--- Outside the headline. What one tick more makes of findings.
+-- What one tick more makes of findings.
 use Rattle.std.specs.Prelude.{ℕ, ℤ, ◌+◌, ◌==◌, max, Bool, Option, Some, None, is_some, if◌then◌else◌, slice_index}
 use Rattle.std.specs.Option.{option_or}
 use Rattle.eg_record.specs.Margins.{greater_than}

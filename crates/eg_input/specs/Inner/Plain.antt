@@ -1,10 +1,9 @@
--- Outside the headline. A plain file: the line of the header, and below it lines of numbers, each ended by
--- one line feed.
+-- A plain file: the line of the header, and below it lines of numbers, each ended by one line feed.
 use Rattle.std.specs.Prelude.{◌≡◌, ℕ, List, ◌∷◌, ◌++◌, length, Bool, true, Option, Some}
 use Rattle.std.specs.Str.{byte}
 use Rattle.csv.specs.declared.parser.State.TheVariants as state
 use Rattle.eg_input.specs.Records.{Record, RowRule, records_of}
-use Rattle.eg_input.specs.Unread.{records_after}
+use Rattle.eg_input.specs.Inner.Unread.{records_after}
 use Rattle.eg_input.specs.Fields.{number_of, truth_of}
 use Rattle.eg_input.specs.Rows.{is_header}
 

@@ -1,4 +1,4 @@
--- Outside the headline. What the code asks of the operands in its table, so that it can read them in a word.
+-- What the code asks of the operands in its table, so that it can read them in a word.
 use Rattle.std.specs.Prelude.{nat_lt, nat_le, Bool, true, ◌&&◌, List, length}
 use Rattle.std.specs.List.{list_all}
 use Rattle.eg_asm.specs.declared.operand.Operand.{Operand}

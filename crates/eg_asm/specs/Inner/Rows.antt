@@ -1,4 +1,4 @@
--- Outside the headline. The table of the code: its rows are the forms.
+-- The table of the code: its rows are the forms.
 use Rattle.eg_asm.specs.declared.form.FormRow.{FormRow}
 use Rattle.eg_asm.specs.Forms.{Form, form}
 

@@ -1,4 +1,4 @@
--- Outside the headline. How one line of a recording is read, and what comes of it (F13, F14).
+-- How one line of a recording is read, and what comes of it (F13, F14).
 use Rattle.std.specs.Prelude.{◌≡◌, ◌⊎◌, ℕ, ◌+◌, ◌≤◌, Bool, true, false, List, [], ◌∷◌, length, reverse, Option, Some, None, Result, Ok, Err}
 use Rattle.eg_base.specs.Outside.{ShownSink}
 use Rattle.eg_lines.specs.Lines.{ShownLines}

@@ -1,4 +1,4 @@
--- Outside the headline. What a reader of records has not read yet.
+-- What a reader of records has not read yet.
 use Rattle.std.specs.Prelude.{◌≡◌, ℕ, ◌+◌, true, false, List, length, Some}
 use Rattle.std.specs.Borrow.{Bor}
 use Rattle.csv.specs.Machine.{ends_at_end}

@@ -1,5 +1,5 @@
--- Outside the headline. A pedal and two truth values are kept as one number: four times the pedal, and 2 and
--- 1 for the truth values.
+-- A pedal and two truth values are kept as one number: four times the pedal, and 2 and 1 for the truth
+-- values.
 use Rattle.std.specs.Prelude.{◌≡◌, ℕ, ◌+◌, ◌*◌, ◌/◌, ◌%◌, ◌==◌, Bool, if◌then◌else◌}
 use Rattle.std.proofs.Common.{arith}
 

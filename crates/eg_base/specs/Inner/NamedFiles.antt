@@ -1,4 +1,4 @@
--- Outside the headline. How a list of named files is seen as files by name.
+-- How a list of named files is seen as files by name.
 use Rattle.std.specs.Prelude.{ℕ, Bool, List, map, reverse, bytes_eq, string_bytes}
 use Rattle.std.specs.FinMap.{from_entries}
 use Rattle.eg_base.specs.Outside.{Files}

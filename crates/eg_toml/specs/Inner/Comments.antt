@@ -1,4 +1,4 @@
--- Outside the headline. A document is the same without the comments at its front.
+-- A document is the same without the comments at its front.
 use Rattle.std.specs.Prelude.{◌≡◌, ◌||◌, ◌&&◌, ◌==◌, ℕ, Bool, List, Some, nat_le}
 use Rattle.std.specs.Str.{byte}
 use Rattle.toml.specs.Data.{Members}

@@ -1,5 +1,4 @@
--- Outside the headline. What one row more makes of the facts of a run, of what is kept of its spans, and of
--- the greatest weights.
+-- What one row more makes of the facts of a run, of what is kept of its spans, and of the greatest weights.
 use Rattle.std.specs.Prelude.{ℕ, ◌+◌, ◌-◌, max, Bool, Some, None, option_map, if◌then◌else◌}
 use Rattle.std.specs.Option.{option_or}
 use Rattle.eg_record.specs.declared.row.Row.{Row}

@@ -1,5 +1,5 @@
--- Outside the headline. From where runs under faults go on: what was played of a run up to a tick, and
--- what is kept of the run without a fault.
+-- From where runs under faults go on: what was played of a run up to a tick, and what is kept of the run
+-- without a fault.
 use Rattle.std.specs.Prelude.{◌≡◌, ◌==◌, ℕ, Bool, false, ◌+◌, ◌*◌, ◌-◌, ◌/◌, ◌≤◌, ◌<◌, List, filter, take, length, Option, Some, None, IsTrue, slice_index_or}
 use Rattle.std.specs.declared.alloc.Global.{Global}
 use Rattle.std.specs.declared.boxed.Box.{Box}

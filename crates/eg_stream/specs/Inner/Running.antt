@@ -1,5 +1,4 @@
--- Outside the headline. A controller between two answers of a partner, and what comes of one line of the
--- partner.
+-- A controller between two answers of a partner, and what comes of one line of the partner.
 use Rattle.std.specs.Prelude.{◌≡◌, ◌⊎◌, ℕ, ◌+◌, List, [], ◌∷◌, length, IsTrue, Option, Some, None, Result, Ok, Err}
 use Rattle.eg_plant.specs.Foreign.{Foreign}
 use Rattle.eg_lines.specs.Lines.{ShownLines}

@@ -1,4 +1,4 @@
--- Outside the headline. What the monitoring module makes of a tick.
+-- What the monitoring module makes of a tick.
 use Rattle.std.specs.Prelude.{◌≡◌, ℕ, ◌+◌, List, [], ◌∷◌, length, Option, Some, None, IfSome, IfNone, SomeIff, IsTrue}
 use Rattle.eg_answer.specs.Times.{AreTimes}
 use Rattle.eg_answer.specs.Periods.{HeardAnswer, period_of, is_last_tick, verdict_over, with_verdict}

@@ -1,5 +1,5 @@
--- Outside the headline. What the code keeps of an instruction until all labels are known: its word but for
--- its target, and the target.
+-- What the code keeps of an instruction until all labels are known: its word but for its target, and the
+-- target.
 use Rattle.std.specs.Prelude.{ℕ, ◌+◌, ◌*◌, ◌==◌, if◌then◌else◌, ℤ, pos, negsuc, min, List, ◌∷◌, Option, Some, None, option_map}
 use Rattle.std.specs.Option.{option_map_or}
 use Rattle.eg_input.specs.declared.image.TheConstants.{MOST_WORDS}

@@ -1,4 +1,4 @@
--- Outside the headline. The names of the runs that were read so far.
+-- The names of the runs that were read so far.
 use Rattle.std.specs.Prelude.{◌≡◌, ℕ, List, bytes_eq}
 use Rattle.std.specs.HashSet.{HashSet, contains}
 use denote.Ref.{Bor}

@@ -1,5 +1,5 @@
--- Outside the headline. The key of a group is a run of it, with a number that is made of all that the runs of
--- the group share. A map finds the first run of a group by it.
+-- The key of a group is a run of it, with a number that is made of all that the runs of the group share. A
+-- map finds the first run of a group by it.
 use Rattle.std.specs.Prelude.{◌≡◌, ℕ, Bool, true, ◌==◌, ◌&&◌, fold}
 use Rattle.std.specs.Hash as fed
 use Rattle.std.specs.Hash.{first_alike, on_Alike, same_Alike}

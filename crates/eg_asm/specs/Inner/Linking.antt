@@ -1,4 +1,4 @@
--- Outside the headline. The words of what is kept of a source, once all of its labels are known.
+-- The words of what is kept of a source, once all of its labels are known.
 use Rattle.std.specs.Prelude.{◌≡◌, ℕ, ◌+◌, min, List, [], ◌∷◌, Option, Some, None, is_some, if◌then◌else◌, option_map, option_and_then, Result, Ok, Err}
 use Rattle.std.specs.HashMap.{get, HashMap}
 use Rattle.std.specs.List.{cons_option}
@@ -8,7 +8,7 @@ use Rattle.eg_asm.specs.declared.fault.AsmFault.{AsmFault}
 use Rattle.eg_asm.specs.declared.fault.AsmFault.TheVariants as fault
 use Rattle.eg_asm.specs.Grammar.{Value}
 use Rattle.eg_asm.specs.Words.{Labels, address_of, complement_of, distance_to}
-use Rattle.eg_asm.specs.Encodings.{Encoded}
+use Rattle.eg_asm.specs.Inner.Encodings.{Encoded}
 
 -- what a target adds to its word at this address, if it is there and in range
 unfoldable pub jump_field : Labels → ℕ → Option (ℕ × Value) → Option ℕ

@@ -1,4 +1,4 @@
--- Outside the headline. The room that a target takes in a word.
+-- The room that a target takes in a word.
 use Rattle.std.specs.Prelude.{ℕ, ◌-◌, ◌*◌, Option, Some, None}
 use Rattle.eg_asm.specs.declared.encoding.Jump.{Jump}
 

@@ -1,4 +1,4 @@
--- Outside the headline. What the code keeps of the lines of a source until all are read.
+-- What the code keeps of the lines of a source until all are read.
 use Rattle.std.specs.Prelude.{◌≡◌, ℕ, ◌+◌, if◌then◌else◌, Bool, false, List, [], ◌∷◌, ◌++◌, length, Option, Some, None, is_some, IsSome, map}
 use Rattle.std.specs.HashMap.{get}
 use Rattle.std.specs.List.{cons_option}
@@ -10,8 +10,8 @@ use Rattle.eg_asm.specs.declared.source.Source.{Source}
 use Rattle.eg_asm.specs.Forms.{form_named}
 use Rattle.eg_asm.specs.Grammar.{Item, Label, Instruction}
 use Rattle.eg_asm.specs.Words.{word_count, labels_of, address_of}
-use Rattle.eg_asm.specs.Encodings.{Encoded, Told, told, instruction_shown}
-use Rattle.eg_asm.specs.Encodings as tells
+use Rattle.eg_asm.specs.Inner.Encodings.{Encoded, Told, told, instruction_shown}
+use Rattle.eg_asm.specs.Inner.Encodings as tells
 use Rattle.eg_asm.specs.Reading.{item_behind, refusal}
 
 -- an instruction with the number of its line

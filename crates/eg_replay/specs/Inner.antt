@@ -1,0 +1,2 @@
+pub mod TickMore
+pub mod Running
