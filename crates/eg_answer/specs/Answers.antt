@@ -35,6 +35,7 @@ results_of rules row =
 unfoldable pub expected_of : Rules → TestRow → ℕ
 expected_of rules row = fold_of row.seed (results_of rules row)
 
--- the number that the monitoring module expects to hear: 255 in the high word, the answer in the low word (C32)
+-- the number that the monitoring module expects to hear: 255 in the high word, the answer in the low word
+-- (C32)
 unfoldable pub answer_number : ℕ → ℕ
 answer_number answer = 255 * 65536 + answer

@@ -1,5 +1,5 @@
--- The bit that feeds each of level 2's five debouncers (C48): a bit of the word of the pairs, or the lowest bit of
--- the word of the excess. Other bits don't count.
+-- The bit that feeds each of level 2's five debouncers (C48): a bit of the word of the pairs, or the lowest
+-- bit of the word of the excess. Other bits don't count.
 use Rattle.std.specs.Prelude.{ℕ, Bool}
 use Rattle.eg_sensor.specs.Readings.{has_bit}
 use Rattle.eg_sensor.specs.declared.pairs.TheConstants.{PEDAL_PAIR, PLATE_PAIR, LOAD_PAIR, SPEED_PAIR}

@@ -1,5 +1,5 @@
--- What level 2 computes of readings and of test rows alike: permitted torque, estimate, excess and pairs (C30, C47).
--- The lower of the two pedal values is `used_pedal` of the sensors.
+-- What level 2 computes of readings and of test rows alike: permitted torque, estimate, excess and pairs
+-- (C30, C47). The lower of the two pedal values is `used_pedal` of the sensors.
 use Rattle.std.specs.Prelude.{ℕ, max, slice_index}
 use Rattle.eg_num.specs.Arithmetic.{estimate}
 use Rattle.eg_torque.specs.Permit.{permitted}

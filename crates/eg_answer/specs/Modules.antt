@@ -1,5 +1,5 @@
--- The eight modules of level 2, by their numbers from 0 on (C24), and what is said of those that run at a tick and
--- of those that are disturbed.
+-- The eight modules of level 2, by their numbers from 0 on (C24), and what is said of those that run at a
+-- tick and of those that are disturbed.
 use Rattle.std.specs.Prelude.{ℕ, ◌≡◌, ◌^◌, ◌≤◌, ◌<◌, ◌==◌, ◌⊎◌, Bool, true, false, not, List, [], ◌∷◌, ◌++◌, if◌then◌else◌}
 use Rattle.eg_answer.specs.declared.modules.TheConstants.{CHECK, PEDAL, PERMITTED, ACTUAL, EXCESS, PAIRS, DEBOUNCE, REACT}
 

@@ -1,5 +1,5 @@
--- Periods, questions and verdicts by ticks (C30, C33, C34). Ticks are counted from the begin of the first period,
--- and lists stand newest first.
+-- Periods, questions and verdicts by ticks (C30, C33, C34). Ticks are counted from the begin of the first
+-- period, and lists stand newest first.
 use Rattle.std.specs.Prelude.{ℕ, ◌+◌, ◌/◌, ◌%◌, ◌==◌, ◌≡◌, ◌≤◌, nat_le, Bool, true, false, ◌&&◌, List, [], ◌∷◌, length, map, Option, Some, None, if◌then◌else◌}
 use Rattle.eg_answer.specs.Answers.{answer_number}
 use Rattle.eg_answer.specs.Questions.{question_at}

@@ -1,5 +1,6 @@
--- The times of the answers (C33), and the numbers of ticks that follow from them: the worst-case reaction (C35), the
--- bound for lapses (C71), the longest excess under lapses (C103), and the spacing of misses (C73).
+-- The times of the answers (C33), and the numbers of ticks that follow from them: the worst-case reaction
+-- (C35), the bound for lapses (C71), the longest excess under lapses (C103), and the spacing of misses
+-- (C73).
 use Rattle.std.specs.Prelude.{◌≡◌, ℕ, ◌+◌, ◌*◌, ◌-◌, ◌/◌, ◌≤◌, ◌<◌, min}
 use Rattle.eg_num.specs.Arithmetic.{quotient_up}
 use Rattle.eg_num.specs.Windows.{WeightParts}
@@ -20,12 +21,13 @@ pub record AreTimes (t : TimeParts) : Type 0 where
   pub to_last : t.send ≤ t.last
   pub inside : t.last < t.period
 
--- The number of bad feeds in a row that confirm (C11): N by the weights of the answers, D by those of the torque.
+-- The number of bad feeds in a row that confirm (C11): N by the weights of the answers, D by those of the
+-- torque.
 unfoldable pub feeds_to_confirm : WeightParts → ℕ
 feeds_to_confirm w = quotient_up w.limit w.up
 
--- R (C35). It counts the ticks from the first one at which no answer is right any more, which is at worst the tick
--- after a send tick, to the first one at which path 2 is open.
+-- R (C35). It counts the ticks from the first one at which no answer is right any more, which is at worst
+-- the tick after a send tick, to the first one at which path 2 is open.
 unfoldable pub reaction_of : TimeParts → ℕ
 reaction_of t = (feeds_to_confirm t.weights + 1) * t.period - t.send - 1
 
@@ -35,8 +37,8 @@ test_ticks_of t = feeds_to_confirm t.weights * t.period
 
 -- ---- the bound for lapses (C71) ----
 
--- `C` of C71: the periods that the D runs of level 2 fill. A right verdict takes the runs of a whole period, so fewer
--- verdicts than this are right before an excess is confirmed.
+-- `C` of C71: the periods that the D runs of level 2 fill. A right verdict takes the runs of a whole period,
+-- so fewer verdicts than this are right before an excess is confirmed.
 unfoldable pub periods_to_confirm : WeightParts → TimeParts → ℕ
 periods_to_confirm torque times = quotient_up (feeds_to_confirm torque) times.period
 
@@ -52,24 +54,26 @@ worth_of torque times = times.weights.up - (periods_to_confirm torque times - 1)
 unfoldable pub rounds_to_confirm : WeightParts → TimeParts → ℕ
 rounds_to_confirm torque times = quotient_up times.weights.limit (worth_of torque times)
 
--- The whole periods of excess after which a path is open: those of the rounds, and one before them, whose verdict
--- may be right by runs from before the excess.
+-- The whole periods of excess after which a path is open: those of the rounds, and one before them, whose
+-- verdict may be right by runs from before the excess.
 unfoldable pub lapse_periods : WeightParts → TimeParts → ℕ
 lapse_periods torque times = rounds_to_confirm torque times * periods_to_confirm torque times + 1
 
--- The bound in ticks: wherever so many ticks in a row begin, they contain those periods and a tick after them.
+-- The bound in ticks: wherever so many ticks in a row begin, they contain those periods and a tick after
+-- them.
 unfoldable pub lapse_bound_of : WeightParts → TimeParts → ℕ
 lapse_bound_of torque times = (lapse_periods torque times + 1) * times.period
 
 -- ---- the longest excess under lapses (C103) ----
 
--- The most right verdicts between wrong ones in a stretch that isn't confirmed. A right verdict takes a period of
--- level 2's runs, and the wrong answer before it takes one run.
+-- The most right verdicts between wrong ones in a stretch that isn't confirmed. A right verdict takes a
+-- period of level 2's runs, and the wrong answer before it takes one run.
 unfoldable pub rights_between : WeightParts → TimeParts → ℕ
 rights_between torque times = (feeds_to_confirm torque - 2) / times.period
 
--- The most wrong verdicts that a counter takes with so many right ones between them, the confirming one counted. Up
--- to the last one the counter is below the limit, and fewer in a row than confirm stand before each right one.
+-- The most wrong verdicts that a counter takes with so many right ones between them, the confirming one
+-- counted. Up to the last one the counter is below the limit, and fewer in a row than confirm stand before
+-- each right one.
 unfoldable pub most_wrong : WeightParts → ℕ → ℕ
 most_wrong w rights =
     min ((w.limit - 1 + rights * w.down) / w.up + 1)
@@ -87,14 +91,14 @@ longest_missed_of torque times =
 
 -- ---- misses after which wrong answers never cut (C73) ----
 
--- There is a spacing: two wrong verdicts in a row, the most that one missed run spoils, don't confirm, and a right
--- verdict takes something back.
+-- There is a spacing: two wrong verdicts in a row, the most that one missed run spoils, don't confirm, and a
+-- right verdict takes something back.
 pub record HasMissSpacing (times : TimeParts) : Type 0 where
   pub two_are_few : 2 * times.weights.up < times.weights.limit
   pub some_taken : 1 ≤ times.weights.down
 
--- With so many periods between two misses, the right verdicts between them, one less than these periods, take back
--- what the two wrong ones add.
+-- With so many periods between two misses, the right verdicts between them, one less than these periods,
+-- take back what the two wrong ones add.
 abbrev pub TakesBack : TimeParts → ℕ → Type 0
 TakesBack times periods = 2 * times.weights.up ≤ (periods - 1) * times.weights.down
 

@@ -123,8 +123,8 @@ impl Times {
 /// The worst-case reaction in ticks (docs/CONCEPT.md, "Worst-case reaction"): where no answer is right any
 /// more from the tick after a send tick on, path 2 is open this many ticks later.
 ///
-/// Claim 5 (C35): R is `(N + 1)*period - send - 1` ticks, where N wrong verdicts in a row are enough to confirm
-/// wrong answers.
+/// Claim 5 (C35): R is `(N + 1)*period - send - 1` ticks, where N wrong verdicts in a row are enough to
+/// confirm wrong answers.
 pub fn reaction(times: &Times) -> u32
     ensures { result ≡ reaction_of times.now }
 {

@@ -53,36 +53,36 @@ pub fn egasim<S: Store, K: Sink, N: Sink>(
     egasim_on_lines(alloc, words, store, &mut lines, out, notes, steps)
 }
 
-/// Does what the words ask for (docs/FORMATS.md, "Commands"): it reads files from `store`, and then `lines` to
-/// their end, where the command takes lines; writes its text to `out`, counts in `steps` the ticks that it
-/// makes, and notes any outcome but Done with one line in `notes`. The words don't hold the program's name.
-/// What `notes` refuses changes no outcome (shown by tests: no clause on the outcome speaks of it).
+/// Does what the words ask for (docs/FORMATS.md, "Commands"): it reads files from `store`, and then `lines`
+/// to their end, where the command takes lines; writes its text to `out`, counts in `steps` the ticks that
+/// it makes, and notes any outcome but Done with one line in `notes`. The words don't hold the program's
+/// name. What `notes` refuses changes no outcome (shown by tests: no clause on the outcome speaks of it).
 ///
-/// Claim 1 (C55, C59, C62; `headline`): On Done, each run of which `run`, `table`, `margins`, `record`, `sweep`
-/// or `soak` told is the run that the files (of `soak`, the seed) say, and keeps the headline, field by field
-/// (docs/READING.md).
+/// Claim 1 (C55, C59, C62; `headline`): On Done, each run of which `run`, `table`, `margins`, `record`,
+/// `sweep` or `soak` told is the run that the files (of `soak`, the seed) say, and keeps the headline, field
+/// by field (docs/READING.md).
 /// Claim 15 (`headline`).
 /// Claim 35 (F1, F3; `ends`): On Done, the output has got exactly the text of the command, by what its files
 /// say. Every other outcome but Memory comes only if its cause was met.
 /// Claim 36 (F3; `completes`): A well-formed command ends Done or Memory if its files are found and accepted,
 /// its lines, run and grid are accepted, and no fault of reading or of writing is met.
-/// Claim 37 (F5; `nothing_put`, `nothing_played`): On Usage, ReadFault and Refused, nothing was put and no tick
-/// was made. Exceptions are `signals`, and `couple` if the outcome is about standard input: claims 51 and 65
-/// say what was put.
-/// Claim 48 (C84, F32, F33; `ends`): On Done, `replay` and `signals` have read all lines, and have put exactly
-/// the text of what the model of level 2 says of the readings.
-/// Claim 49 (F14; `ends`): Every other outcome of `replay` and `signals` but Memory comes only if its cause was
-/// met. A refusal names the first cause: the header; or the first bad line, by its number; or that there are no
-/// records.
-/// Claim 51 (F14; `ends`, `nothing_put`): If a line is refused, or reading a line fails, `signals` and `couple`
-/// have put the rows of all lines before it, and `replay` has put nothing.
-/// Claim 52 (F3; `ends`): On WriteFault, and on Memory once lines are read, `replay` and `signals` have accepted
-/// all lines that came, and `couple` has taken them. A prefix of the text of these lines was put, by `replay`
-/// only if no line is left.
-/// Claim 54 (F3; `completes`): Claim 36 holds of `replay` and `signals` too if their source is sure and all its
-/// lines are good, and of `couple` if its source is sure and all its answers are taken.
-/// Claim 64 (C89, F35; `ends`): On Done, `couple` has taken all lines, and the text that it has put is exactly
-/// that of the rows of its answers, and of what is commanded next at each.
+/// Claim 37 (F5; `nothing_put`, `nothing_played`): On Usage, ReadFault and Refused, nothing was put and no
+/// tick was made. Exceptions are `signals`, and `couple` if the outcome is about standard input: claims 51
+/// and 65 say what was put.
+/// Claim 48 (C84, F32, F33; `ends`): On Done, `replay` and `signals` have read all lines, and have put
+/// exactly the text of what the model of level 2 says of the readings.
+/// Claim 49 (F14; `ends`): Every other outcome of `replay` and `signals` but Memory comes only if its cause
+/// was met. A refusal names the first cause: the header; or the first bad line, by its number; or that there
+/// are no records.
+/// Claim 51 (F14; `ends`, `nothing_put`): If a line is refused, or reading a line fails, `signals` and
+/// `couple` have put the rows of all lines before it, and `replay` has put nothing.
+/// Claim 52 (F3; `ends`): On WriteFault, and on Memory once lines are read, `replay` and `signals` have
+/// accepted all lines that came, and `couple` has taken them. A prefix of the text of these lines was put,
+/// by `replay` only if no line is left.
+/// Claim 54 (F3; `completes`): Claim 36 holds of `replay` and `signals` too if their source is sure and all
+/// its lines are good, and of `couple` if its source is sure and all its answers are taken.
+/// Claim 64 (C89, F35; `ends`): On Done, `couple` has taken all lines, and the text that it has put is
+/// exactly that of the rows of its answers, and of what is commanded next at each.
 /// Claim 65 (C89, F37; `ends`): A refusal of a line by `couple` names the first line that is no answer, that
 /// breaks a law of engines, or that is one more than 20,000. What the lines before it say was put.
 /// Claim 72 (`ends`).
@@ -95,8 +95,8 @@ pub fn egasim_on_lines<S: Store, L: Lines, K: Sink, N: Sink>(
     notes: &mut N,
     steps: &mut Ticks,
 ) -> Outcome
-    // The headline (docs/READING.md, "The headline, field by field"): claims 1 and 15, and claim 59 of the run
-    // that `couple` took.
+    // The headline (docs/READING.md, "The headline, field by field"): claims 1 and 15, and claim 59 of the
+    // run that `couple` took.
     ensures headline { result ≡ Done → TellsHeadline (command_of (word_bytes words.now)) (S.shows store.old)
         (change_of K.shows out.old out.new) }
 

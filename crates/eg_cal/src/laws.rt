@@ -10,9 +10,9 @@ ghost use Rattle.eg_cal.specs.Reference.{reference_text};
 /// Does nothing when it runs. Its contract is a law of calibration files (docs/FORMATS.md, "Calibration
 /// files").
 ///
-/// Claim 38 (C74, F20, F21): The document of a calibration file is accepted exactly if it keeps the rules: each
-/// key of its version is there and holds what it may, no other name is there, and the values go together. The
-/// calibration then has the values under the keys.
+/// Claim 38 (C74, F20, F21): The document of a calibration file is accepted exactly if it keeps the rules:
+/// each key of its version is there and holds what it may, no other name is there, and the values go
+/// together. The calibration then has the values under the keys.
 pub fn accepted_files_keep_the_rules()
     ensures { AcceptedLaw }
 {}

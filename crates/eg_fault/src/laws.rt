@@ -15,8 +15,8 @@ pub fn modules_run_together()
 /// but for the classes that may change them; and a monitoring module that isn't wild at a tick wasn't wild at
 /// any tick before.
 ///
-/// Claim 32 (C38; `tracks`): Under each fault, all tracks but one are sound at all ticks. The one that may not
-/// be sound is the same at all ticks.
+/// Claim 32 (C38; `tracks`): Under each fault, all tracks but one are sound at all ticks. The one that may
+/// not be sound is the same at all ticks.
 pub fn faults_leave_the_rest()
     ensures tracks { OneTrackIsFaulty }
     ensures brake { PressedBrakesAreSeen }

@@ -22,8 +22,8 @@ const HEADER_WITH_BRAKE: &[u8] =
 
 /// The columns that the first line of a recording names, without its line feed; None where it is no header.
 ///
-/// Claim 50 (F13): A line is taken as a header of recorded readings, or as a line that writes readings, exactly
-/// if docs/FORMATS.md says so, and its columns or readings are those that it says.
+/// Claim 50 (F13): A line is taken as a header of recorded readings, or as a line that writes readings,
+/// exactly if docs/FORMATS.md says so, and its columns or readings are those that it says.
 #[tactic(auto, unfolding(crate::specs::Recording::columns_of, crate::specs::Recording::header))]
 pub fn columns_of(line: &[u8]) -> Option<Columns>
     ensures { result ≡ columns_of line.now }

@@ -49,11 +49,12 @@ pub fn check_files_are_their_rows()
     ensures memory { (file : List Record) → check_rows file ≢ Err fault.Memory }
 {}
 
-/// Does nothing when it runs. Its clauses are laws of what `drive_rows` says of a drive trace (docs/FORMATS.md,
-/// "Check files and traces"). By those beside `rows` it gives each fault exactly if the file has it.
+/// Does nothing when it runs. Its clauses are laws of what `drive_rows` says of a drive trace
+/// (docs/FORMATS.md, "Check files and traces"). By those beside `rows` it gives each fault exactly if the
+/// file has it.
 ///
-/// Claim 40 (F9, F10; `rows`): A drive trace gives rows exactly if it is one of the three headers and below it
-/// 1 to 20,000 records, each of which writes its row.
+/// Claim 40 (F9, F10; `rows`): A drive trace gives rows exactly if it is one of the three headers and below
+/// it 1 to 20,000 records, each of which writes its row.
 pub fn traces_are_their_rows()
     ensures rows { (file : List Record) (rows : List DriveRow) → (drive_rows file ≡ Ok rows) ↔
         Any (λ header. IsFileOf header (drive_of (length header)) file rows) trace_headers }

@@ -8,8 +8,9 @@ use Rattle.eg_model.specs.Lapses.{StretchesStayBelow}
 use Rattle.eg_laws.specs.LeastReaction.{CanExceed}
 use Rattle.eg_laws.specs.LeastLapse.{lapse_setting, before_lapse, missed_excess, Lasts}
 
--- One wrong verdict confirms; or a right one takes nothing back; or the runs of level 2 that confirm an excess
--- are at most one more than the ticks of a period, so that no right verdict stands between wrong ones.
+-- One wrong verdict confirms; or a right one takes nothing back; or the runs of level 2 that confirm an
+-- excess are at most one more than the ticks of a period, so that no right verdict stands between wrong
+-- ones.
 abbrev pub NoneFurther : CalibrationParts → Type 0
 NoneFurther cal =
     (feeds_to_confirm cal.times.weights ≡ 1)
@@ -20,8 +21,8 @@ abbrev pub MissedIsListed : Type 0
 MissedIsListed =
     (cal : CalibrationParts) → IsAccepted cal → NoneFurther cal → longest_missed cal ≡ longest_stretch cal
 
--- Where an excess can be confirmed at all, the history of `LeastLapse` has a stretch of so many ticks: D - 1 of
--- excess, and then R that level 2 misses.
+-- Where an excess can be confirmed at all, the history of `LeastLapse` has a stretch of so many ticks: D - 1
+-- of excess, and then R that level 2 misses.
 abbrev pub MissedExcessLasts : Type 0
 MissedExcessLasts =
     (cal : CalibrationParts) → IsAccepted cal → NoneFurther cal → (can : CanExceed cal) →

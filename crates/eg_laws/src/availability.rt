@@ -23,8 +23,8 @@ pub fn far_misses_never_cut()
 {}
 
 /// What wrong answers leave on under lapses (docs/CONCEPT.md, "Lapses"). `answers` finds nothing and path 2
-/// conducts as long as no trip has come; without a ramp, and if the full-efficiency excess comes at no row, the
-/// stages are on at each row. It does nothing when it runs.
+/// conducts as long as no trip has come; without a ramp, and if the full-efficiency excess comes at no row,
+/// the stages are on at each row. It does nothing when it runs.
 ///
 /// Claim 23 (C73): In a drive span in which the ticks that a lapse makes level 2 miss lie `spacing` or more
 /// ticks apart, the stages are on exactly until the first trip.

@@ -18,11 +18,12 @@ pub fn closed_paths_are_found()
     ensures { (engine : EngineKind) → RecordsFindClosed (bench_of engine) }
 {}
 
-/// What spoils the answers opens path 2 (docs/CONCEPT.md, "Why the unit reacts"). It does nothing when it runs.
+/// What spoils the answers opens path 2 (docs/CONCEPT.md, "Why the unit reacts"). It does nothing when it
+/// runs.
 ///
-/// Claim 81 (C99): Under `skip`, `disturb` and `halt`, path 2 is open in each drive span from R ticks after the
-/// onset, whether path 1 has opened or not. If the span begins after the onset, the R ticks count from its
-/// beginning.
+/// Claim 81 (C99): Under `skip`, `disturb` and `halt`, path 2 is open in each drive span from R ticks after
+/// the onset, whether path 1 has opened or not. If the span begins after the onset, the R ticks count from
+/// its beginning.
 pub fn spoiled_answers_open_path_2()
     ensures { (engine : EngineKind) → RecordsOpenPath2 (bench_of engine) }
 {}
@@ -30,9 +31,9 @@ pub fn spoiled_answers_open_path_2()
 /// A send tick that is moved out of the answer window (docs/CONCEPT.md, "Faults"). It does nothing when it
 /// runs.
 ///
-/// Claim 82 (C99): Under `timing` with an `offset` outside the answer window, path 2 is open in each drive span
-/// from R ticks after the onset, or after the span's beginning if that is later. By then a cutting watch has
-/// found something, if the span lasts so long.
+/// Claim 82 (C99): Under `timing` with an `offset` outside the answer window, path 2 is open in each drive
+/// span from R ticks after the onset, or after the span's beginning if that is later. By then a cutting
+/// watch has found something, if the span lasts so long.
 pub fn moved_answers_are_cut()
     ensures { (engine : EngineKind) → RecordsCutMoved (bench_of engine) }
 {}

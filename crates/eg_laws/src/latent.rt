@@ -3,8 +3,8 @@ ghost use Rattle.eg_plant.specs.declared.engine_kind.EngineKind.{EngineKind};
 ghost use Rattle.eg_model.specs.Engines.{bench_of};
 ghost use Rattle.eg_laws.specs.Latent.{ReadingsApartHide, FarMissesHide, SingleMissesHide, OneMissHides, SmallOffsetsHide, SmallScriptsHide, RestHides, DieselIsCalm, MovesInWindowHide};
 
-/// Faults that can stay hidden, whatever the engine is (docs/CONCEPT.md, "Faults"). The runs that show it have
-/// no code of level 1. It does nothing when it runs.
+/// Faults that can stay hidden, whatever the engine is (docs/CONCEPT.md, "Faults"). The runs that show it
+/// have no code of level 1. It does nothing when it runs.
 ///
 /// Claim 85 (C100; `readings_apart`): Under each valid `plate`, `wild`, `path1-closed`, `path2-closed` and
 /// `path-open`, there are runs of each length, without a reset, in which no watch finds anything at any tick.
@@ -22,10 +22,10 @@ pub fn faults_stay_hidden()
 
 /// Offsets that can stay hidden (docs/CONCEPT.md, "Faults"). It does nothing when it runs.
 ///
-/// Claim 87 (C100): There are runs as in claim 85 under each valid `offset` on a track of a pair that moves its
-/// readings, up or down, by no more than the tolerance of the pair. If the track is one of the load, the
-/// greatest raise (10,000) and the threshold together must also permit the torque estimate of the greatest load
-/// that is then read.
+/// Claim 87 (C100): There are runs as in claim 85 under each valid `offset` on a track of a pair that moves
+/// its readings, up or down, by no more than the tolerance of the pair. If the track is one of the load, the
+/// greatest raise (10,000) and the threshold together must also permit the torque estimate of the greatest
+/// load that is then read.
 pub fn small_offsets_stay_hidden()
     ensures { (engine : EngineKind) → SmallOffsetsHide (bench_of engine) }
 {}
@@ -55,9 +55,9 @@ pub fn faults_stay_hidden_at_rest()
 /// A send tick that is moved within the answer window can stay hidden (docs/CONCEPT.md, "Questions and
 /// answers"). It does nothing when it runs.
 ///
-/// Claim 88 (C100): There are runs as in claim 85 under each valid `timing` with an `offset` within the answer
-/// window, if one wrong verdict isn't enough to confirm, or if the period in which the onset lies keeps one
-/// answer.
+/// Claim 88 (C100): There are runs as in claim 85 under each valid `timing` with an `offset` within the
+/// answer window, if one wrong verdict isn't enough to confirm, or if the period in which the onset lies
+/// keeps one answer.
 pub fn moves_in_the_window_stay_hidden()
     ensures { (engine : EngineKind) → MovesInWindowHide (bench_of engine) }
 {}

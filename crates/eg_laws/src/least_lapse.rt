@@ -10,9 +10,9 @@ ghost use Rattle.eg_laws.specs.Examples.{longest_excess};
 /// one: some stretch lasts R + D - 1 ticks. By `below`, where D is at most `send` + 1, no excess stands for
 /// `lapse_periods` whole periods. It does nothing when it runs.
 ///
-/// Claim 22 (C72; `shorter`, `least`): Under lapses, with a calibration without a ramp and with D at most the
-/// period, each stretch of true excess has fewer than R + D ticks. If the calibration lets an excess be confirmed
-/// at all, no smaller number serves for all engines, whatever ramp and D are.
+/// Claim 22 (C72; `shorter`, `least`): Under lapses, with a calibration without a ramp and with D at most
+/// the period, each stretch of true excess has fewer than R + D ticks. If the calibration lets an excess be
+/// confirmed at all, no smaller number serves for all engines, whatever ramp and D are.
 pub fn lapse_bound_is_least()
     ensures shorter { StretchesAreShorter }
     ensures below { NoneStandsSoLong }

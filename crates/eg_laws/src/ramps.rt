@@ -9,9 +9,9 @@ ghost use Rattle.eg_laws.specs.Ramps.{NoRampTakesNoTick, LevelRampHasNoEnd, Reco
 ///
 /// Claim 73 (C95, C96; `ticks`, `falls`): Without a fault or under a valid one, and as long as no raise in a
 /// drive span passes the greatest number of the permit table: the permitted torque lies above the demand for
-/// fewer ticks in a row than `ramp`, if the calibration has that number, and at no tick if it is 0. At the k-th
-/// of these ticks it lies above the demand by at most the greatest number of the table, less its least number,
-/// less k * `fall`.
+/// fewer ticks in a row than `ramp`, if the calibration has that number, and at no tick if it is 0. At the
+/// k-th of these ticks it lies above the demand by at most the greatest number of the table, less its least
+/// number, less k * `fall`.
 pub fn records_leave_ramps()
     ensures ticks { (engine : EngineKind) → RecordsLeaveRamps (bench_of engine) }
     ensures falls { (engine : EngineKind) → RecordsComeDownRamps (bench_of engine) }

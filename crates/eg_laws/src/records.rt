@@ -20,43 +20,44 @@ pub fn records_are_histories()
 /// The reaction theorem for runs on the bench with no fault or a listed one (docs/CONCEPT.md, "Why the unit
 /// reacts"). It does nothing when it runs.
 ///
-/// Claim 2 (C62; `in_time`): Under at most one listed fault, the stages are off in each drive span from R ticks
-/// after the tick at which a true excess is first confirmed in the span, up to the span's end.
-/// Claim 3 (C60, C62; `at_once`): Under at most one listed fault, the stages are off from the tick after a true
-/// excess is confirmed, up to the drive span's end. Exceptions are `path1-closed`, and a `skip`, `disturb` or
-/// `halt` that has begun by the tick that confirms. Lapses aren't listed faults, so nothing is said of them
-/// here.
+/// Claim 2 (C62; `in_time`): Under at most one listed fault, the stages are off in each drive span from R
+/// ticks after the tick at which a true excess is first confirmed in the span, up to the span's end.
+/// Claim 3 (C60, C62; `at_once`): Under at most one listed fault, the stages are off from the tick after a
+/// true excess is confirmed, up to the drive span's end. Exceptions are `path1-closed`, and a `skip`,
+/// `disturb` or `halt` that has begun by the tick that confirms. Lapses aren't listed faults, so nothing is
+/// said of them here.
 pub fn records_react()
     ensures in_time { (engine : EngineKind) → RecordsReact (bench_of engine) }
     ensures at_once { (engine : EngineKind) → RecordsReactAtOnce (bench_of engine) }
 {}
 
-/// What spoils the answers cuts, whatever the torque (docs/CONCEPT.md, "Why the unit reacts"). It does nothing
-/// when it runs.
+/// What spoils the answers cuts, whatever the torque (docs/CONCEPT.md, "Why the unit reacts"). It does
+/// nothing when it runs.
 ///
-/// Claim 7 (C63): Under `skip`, `disturb` and `halt`, the stages are off in each drive span from R ticks after
-/// the onset, whatever the torque. If the drive span begins after the onset, the R ticks count from its
-/// beginning.
+/// Claim 7 (C63): Under `skip`, `disturb` and `halt`, the stages are off in each drive span from R ticks
+/// after the onset, whatever the torque. If the drive span begins after the onset, the R ticks count from
+/// its beginning.
 pub fn records_cut_from_onset()
     ensures { (engine : EngineKind) → RecordsCutFromOnset (bench_of engine) }
 {}
 
-/// The sharp cut for runs on the bench (docs/CONCEPT.md, "Why the unit reacts"). It does nothing when it runs.
+/// The sharp cut for runs on the bench (docs/CONCEPT.md, "Why the unit reacts"). It does nothing when it
+/// runs.
 ///
 /// Claim 9 (C68; `rows`): Without a fault, the stages are on in each drive span up to the tick at which a
-/// full-efficiency excess is first confirmed in the span, this tick included, and off at each later tick of the
-/// span. If none is confirmed, they are on at each tick of the span.
+/// full-efficiency excess is first confirmed in the span, this tick included, and off at each later tick of
+/// the span. If none is confirmed, they are on at each tick of the span.
 /// Claim 10 (C68; `before`): Under any fault, what claim 9 says holds at each tick before the onset.
 pub fn records_cut_sharply()
     ensures rows { (engine : EngineKind) → RecordsCutSharply (bench_of engine) }
     ensures before { (engine : EngineKind) → RecordsCutSharplyBefore (bench_of engine) }
 {}
 
-/// What is told of the reactions of a run once its rows are gone (docs/CONCEPT.md, "`table`"). It does nothing
-/// when it runs.
+/// What is told of the reactions of a run once its rows are gone (docs/CONCEPT.md, "`table`"). It does
+/// nothing when it runs.
 ///
-/// Claim 8 (C80, C81): Under at most one listed fault, `reaction` of `table` is at most R in each run that has
-/// one. Each run whose `settled` is 1 has one.
+/// Claim 8 (C80, C81): Under at most one listed fault, `reaction` of `table` is at most R in each run that
+/// has one. Each run whose `settled` is 1 has one.
 pub fn spans_react_in_time()
     ensures { (engine : EngineKind) → RecordsReactInTime (bench_of engine) }
 {}

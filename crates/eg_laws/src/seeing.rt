@@ -8,12 +8,12 @@ ghost use Rattle.eg_laws.specs.Examples.{StaysOn, Shows, high_pedal, low_loads, 
 /// The reaction under several faults at once, whatever they are (docs/CONCEPT.md, "Why the unit reacts"). It
 /// does nothing when it runs.
 ///
-/// Claim 45 (C67; `cut`): Whatever faults there are, if level 2 can see an excess at each tick of a drive span
-/// up to the one that confirms a true excess, the stages are off at each later tick of the span at which path 1
-/// obeys.
+/// Claim 45 (C67; `cut`): Whatever faults there are, if level 2 can see an excess at each tick of a drive
+/// span up to the one that confirms a true excess, the stages are off at each later tick of the span at
+/// which path 1 obeys.
 /// Claim 46 (C67; `in_time`): Under the same condition, the stages are off from R ticks after the tick that
-/// confirms, at each tick at which path 2 obeys. This holds if up to then answers are sent at their usual ticks
-/// and the monitoring module isn't wild.
+/// confirms, at each tick at which path 2 obeys. This holds if up to then answers are sent at their usual
+/// ticks and the monitoring module isn't wild.
 pub fn seen_excess_is_cut()
     ensures cut { SeenExcessIsCut }
     ensures in_time { SeenExcessIsCutInTime }

@@ -10,11 +10,11 @@ ghost use Rattle.eg_laws.specs.Stretches.{StretchesEnd, StretchesEndAtOnce, Exce
 ghost use Rattle.eg_laws.specs.Examples.{longest_closed};
 
 /// How long an excess lasts (docs/CONCEPT.md, "Why the unit reacts"): claims 41 and 42 for histories of any
-/// engine (`ends`, `at_once`), stretches that last so long (`lasts`, `confirmed`), and what follows of them. It
-/// does nothing when it runs.
+/// engine (`ends`, `at_once`), stretches that last so long (`lasts`, `confirmed`), and what follows of them.
+/// It does nothing when it runs.
 ///
-/// Claim 43 (C65; `least`, `least_at_once`): If the calibration lets an excess be confirmed at all, no smaller
-/// numbers serve in claims 41 and 42 for all engines and all listed faults together.
+/// Claim 43 (C65; `least`, `least_at_once`): If the calibration lets an excess be confirmed at all, no
+/// smaller numbers serve in claims 41 and 42 for all engines and all listed faults together.
 pub fn excess_ends()
     ensures ends { StretchesEnd }
     ensures at_once { StretchesEndAtOnce }
@@ -24,13 +24,13 @@ pub fn excess_ends()
     ensures least_at_once { StretchAtOnceIsLeast }
 {}
 
-/// What `excess_ends` says, by the rows of each drive span of the record of a run on the bench, for each engine
-/// (docs/CONCEPT.md, "Why the unit reacts"). It does nothing when it runs.
+/// What `excess_ends` says, by the rows of each drive span of the record of a run on the bench, for each
+/// engine (docs/CONCEPT.md, "Why the unit reacts"). It does nothing when it runs.
 ///
 /// Claim 41 (C65; `ends`): Under at most one listed fault, each stretch of true excess in a drive span has at
 /// most D - 1 + R rows.
-/// Claim 42 (C65; `at_once`): Where claim 3 has the stages off from the tick after a true excess is confirmed,
-/// each stretch of true excess has at most D rows.
+/// Claim 42 (C65; `at_once`): Where claim 3 has the stages off from the tick after a true excess is
+/// confirmed, each stretch of true excess has at most D rows.
 pub fn records_end_excess()
     ensures ends { (engine : EngineKind) → RecordsEndStretches (bench_of engine) }
     ensures at_once { (engine : EngineKind) → RecordsEndStretchesAtOnce (bench_of engine) }

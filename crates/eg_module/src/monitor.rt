@@ -153,8 +153,8 @@ impl Monitor {
     /// heard in it, feeds it to the counter, and forgets the answers. At any other tick of that period it
     /// gives none and changes nothing (docs/CONCEPT.md, "Questions and answers").
     ///
-    /// Claim 30 (C33, C34; `right`): A verdict is right exactly if one answer came in the period, in the answer
-    /// window, and it was the expected number.
+    /// Claim 30 (C33, C34; `right`): A verdict is right exactly if one answer came in the period, in the
+    /// answer window, and it was the expected number.
     pub fn close(&mut self, tick: u32) -> Option<Verdict>
         requires { self.old.verdicts ≡ period_of self.old.times tick }
         ensures verdict { SomeIff result (IsTrue (is_last_tick self.old.times tick))

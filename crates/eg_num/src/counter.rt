@@ -49,8 +49,8 @@ impl Counter {
 /// Does nothing when it runs. Its contract is the law of counters, fed any feeds from 0 (docs/CONCEPT.md,
 /// "Debouncing").
 ///
-/// Claim 31 (C9, C10): A debounce counter is the greatest weight of the windows that end at the last feed. Once
-/// it has reached the limit, it stays there.
+/// Claim 31 (C9, C10): A debounce counter is the greatest weight of the windows that end at the last feed.
+/// Once it has reached the limit, it stays there.
 pub fn counters_count_windows()
     ensures { CounterLaw }
 {}

@@ -1,4 +1,5 @@
--- True excess and full-efficiency excess of rows (C56), and how long and how great the excess of a run is (C77, C80).
+-- True excess and full-efficiency excess of rows (C56), and how long and how great the excess of a run is
+-- (C77, C80).
 use Rattle.std.specs.Prelude.{ℕ, ◌+◌, ◌-◌, max, Bool, List, [], ◌∷◌, length, map, Option, Some, None, if◌then◌else◌}
 use Rattle.std.specs.Option.{option_or}
 use Rattle.eg_num.specs.Arithmetic.{estimate}

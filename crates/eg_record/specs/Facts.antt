@@ -27,8 +27,8 @@ unfoldable pub off_from : (last_on : Option ℕ) → ℕ
 off_from None = 0
 off_from (Some last) = last + 1
 
--- The ticks from the one that confirms a true excess until the stages are off for good: 0 if they are off for good
--- before, none if no excess is confirmed or the stages are on at the last tick before the end.
+-- The ticks from the one that confirms a true excess until the stages are off for good: 0 if they are off
+-- for good before, none if no excess is confirmed or the stages are on at the last tick before the end.
 abbrev pub reaction_by : (last_on confirmed : Option ℕ) → (end : ℕ) → Option ℕ
 reaction_by last_on confirmed end =
     if nat_lt (off_from last_on) end then option_map (λ c. off_from last_on - c) confirmed else None

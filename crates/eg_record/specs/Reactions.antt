@@ -1,5 +1,5 @@
--- The reactions of the spans of a run (C80), and whether each span goes on long enough to show one (C81). All ticks
--- are those of the run.
+-- The reactions of the spans of a run (C80), and whether each span goes on long enough to show one (C81).
+-- All ticks are those of the run.
 use Rattle.std.specs.Prelude.{ℕ, ◌+◌, ◌-◌, Bool, true, max, min, nat_le, List, [], ◌∷◌, map, Option, Some, None, option_map, if◌then◌else◌}
 use Rattle.std.specs.Option.{option_or}
 use Rattle.eg_num.specs.Windows.{WeightParts, is_confirmed}
@@ -24,8 +24,8 @@ unfoldable pub end_of : List Row → ℕ
 end_of [] = 0
 end_of (row ∷ before) = row.tick + 1
 
--- the ticks from the one that confirms until the stages are off for good; none if no excess is confirmed or the stages
--- are on at the span's last tick
+-- the ticks from the one that confirms until the stages are off for good; none if no excess is confirmed or
+-- the stages are on at the span's last tick
 unfoldable pub reaction_in_span : WeightParts → (threshold : ℕ) → List Row → Option ℕ
 reaction_in_span weights threshold span =
     reaction_by (last_on span) (confirmed_in weights threshold span) (end_of span)

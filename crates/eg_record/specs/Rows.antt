@@ -1,5 +1,5 @@
--- The record of a run: a list of rows, one a tick, newest first. What the rows first give is what the earliest row
--- gives that gives anything.
+-- The record of a run: a list of rows, one a tick, newest first. What the rows first give is what the
+-- earliest row gives that gives anything.
 use Rattle.std.specs.Prelude.{◌≡◌, List, [], ◌∷◌, length, Option, None}
 use Rattle.std.specs.Option.{option_or}
 use Rattle.eg_record.specs.declared.row.Row.{Row}

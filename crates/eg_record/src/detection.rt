@@ -54,9 +54,9 @@ pub(crate) fn first_confirmed(rows: &[Row], threshold: u16, weights: &Weights) -
 /// Does nothing when it runs. Its contract is the law of what a report tells first (docs/CONCEPT.md, "The
 /// report of a run"): the order of watches decides between two that find at one tick.
 ///
-/// Claim 15 (C57, C59, C80): `first` of a report names the least tick at which any watch finds something, and
-/// the first in the order of watches that does so at this tick. `reaction`, `stretch` and `peak` of `table` are
-/// the least numbers of which their meaning (docs/CONCEPT.md, "`table`") holds.
+/// Claim 15 (C57, C59, C80): `first` of a report names the least tick at which any watch finds something,
+/// and the first in the order of watches that does so at this tick. `reaction`, `stretch` and `peak` of
+/// `table` are the least numbers of which their meaning (docs/CONCEPT.md, "`table`") holds.
 pub fn detections_are_first()
     ensures { DetectionLaw }
 {}

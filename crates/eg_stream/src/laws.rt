@@ -13,11 +13,11 @@ ghost use Rattle.eg_input.specs.declared.answered.PartnerAnswer.{PartnerAnswer a
 /// each accepted calibration, without a fault and under each valid one. By `rows` each answer adds the row of
 /// its tick.
 ///
-/// Claim 59 (C90; `keeps`): Whatever lines a partner answers that are taken, the rows of `couple` show what was
-/// answered, and keep the headline but for its fields on the engines of the bench and on reports. They also
-/// keep claim 96, and what claim 97 says of path 2.
-/// Claim 60 (C90; `keeps`): If the partner's two loads are equal at each tick, these rows also keep claims 9 to
-/// 11 and 23.
+/// Claim 59 (C90; `keeps`): Whatever lines a partner answers that are taken, the rows of `couple` show what
+/// was answered, and keep the headline but for its fields on the engines of the bench and on reports. They
+/// also keep claim 96, and what claim 97 says of path 2.
+/// Claim 60 (C90; `keeps`): If the partner's two loads are equal at each tick, these rows also keep claims 9
+/// to 11 and 23.
 /// Claim 61 (C90; `keeps`): With another image or slice plan, the same answers have the same rows but for the
 /// two outputs of level 1.
 /// Claim 64 (`text`).

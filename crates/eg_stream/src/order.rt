@@ -21,8 +21,9 @@ pub fn no_line_is_read_ahead()
 /// bytes, over a reader and a stream that tell their bytes (`eg_lines::LateLines::new`,
 /// `eg_base::StdSink::told`).
 ///
-/// Claim 72 (F32, F33, F35): If the reader and the stream of `replay`, `signals` or `couple` tell their bytes,
-/// then on Done the stream has got exactly the text of the lines that the reader had left, behind what it held.
+/// Claim 72 (F32, F33, F35): If the reader and the stream of `replay`, `signals` or `couple` tell their
+/// bytes, then on Done the stream has got exactly the text of the lines that the reader had left, behind
+/// what it held.
 pub fn bytes_lead_to_bytes()
     ensures signals { (cal : CalibrationParts) → BytesLeadToBytes (signals_work cal) }
     ensures replay { (cal : CalibrationParts) → BytesLeadToBytes (replay_work cal) }

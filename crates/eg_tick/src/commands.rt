@@ -14,11 +14,12 @@ pub struct Commands {
     pub held: Option<u16>,
 }
 
-/// Does nothing when it runs. Its clause is a law: so what a tick commands can be told before its row is known.
+/// Does nothing when it runs. Its clause is a law: so what a tick commands can be told before its row is
+/// known.
 ///
-/// Claim 63 (C88): What a tick commands is the same for all drive rows that don't reset the unit. It is the two
-/// outputs of the row before (none where a span begins), whether the stages are on, and where the plate is
-/// held.
+/// Claim 63 (C88): What a tick commands is the same for all drive rows that don't reset the unit. It is the
+/// two outputs of the row before (none where a span begins), whether the stages are on, and where the plate
+/// is held.
 pub fn rows_command_alike()
     ensures { RowsCommandAlike }
 {}

@@ -152,8 +152,9 @@ impl<E: Engine + Drop, M: Guarded + Drop> Controller<E, M> {
     /// row. It is counted in `steps`. A controller makes at most 20,000 ticks. After NoMemory every later
     /// tick answers NoMemory.
     ///
-    /// Claim 34 (C53, C54; `made`): The controller, with its counters, tokens and mirrored words, does what the
-    /// model does: each row that it answers is the row of the model, for the run that its ticks so far make.
+    /// Claim 34 (C53, C54; `made`): The controller, with its counters, tokens and mirrored words, does what
+    /// the model does: each row that it answers is the row of the model, for the run that its ticks so far
+    /// make.
     #[inline(always)]
     pub fn tick(
         &mut self,

@@ -1,4 +1,5 @@
--- How long an excess can last by a calibration, in ticks (C65, C96, C103), and how great it can be, in tenths of Nm (C77).
+-- How long an excess can last by a calibration, in ticks (C65, C96, C103), and how great it can be, in
+-- tenths of Nm (C77).
 use Rattle.std.specs.Prelude.{◌≡◌, ◌⊎◌, ℕ, ◌+◌, ◌-◌, ◌*◌, ◌/◌, ◌==◌, if◌then◌else◌, Option, Some, None, length, max, min, take}
 use Rattle.std.specs.List.{fold}
 use Rattle.eg_num.specs.Arithmetic.{quotient_up}
@@ -21,8 +22,8 @@ longest_stretch cal = ticks_to_confirm cal - 1 + reaction_of cal.times
 unfoldable pub greatest_torque : PlantParts → ℕ
 greatest_torque plant = fold max 0 plant.charge.values * plant.kt / 1000
 
--- The least value of the table's first row: no row lies below the one before it (C4), and what lies between two values
--- isn't below both.
+-- The least value of the table's first row: no row lies below the one before it (C4), and what lies between
+-- two values isn't below both.
 unfoldable pub least_permitted : Grid → ℕ
 least_permitted permit = fold min (cell permit 0 0) (take (length permit.columns) permit.values)
 
@@ -41,8 +42,8 @@ ramp_ticks rules =
 unfoldable pub greatest_excess : CalibrationParts → ℕ
 greatest_excess cal = greatest_torque cal.plant - (least_permitted cal.rules.permit + cal.rules.threshold)
 
--- The bound for lapses exists (C71): there is no ramp, since with one level 2's permitted torque stands too high after
--- a lapse, and the bound's inequality holds.
+-- The bound for lapses exists (C71): there is no ramp, since with one level 2's permitted torque stands too
+-- high after a lapse, and the bound's inequality holds.
 pub record BoundsLapses (cal : CalibrationParts) : Type 0 where
   pub no_ramp : cal.rules.fall ≡ NO_RAMP
   pub bound : HasLapseBound cal.rules.torque cal.times

@@ -18,8 +18,8 @@ use eg_turns::Outputs;
 impl<E: Engine + Drop, M: Guarded + Drop> Controller<E, M> {
     /// What the next tick commands to the engine (docs/CONCEPT.md, "`couple`"). Nothing changes.
     ///
-    /// Claim 62 (C88): A controller tells exactly what the next tick of the model commands to the engine, given
-    /// whether the drive row of that tick resets the unit.
+    /// Claim 62 (C88): A controller tells exactly what the next tick of the model commands to the engine,
+    /// given whether the drive row of that tick resets the unit.
     pub fn commands(&self, resets: bool) -> Commands
         ensures { (s : Setting) (drive : DriveRow) (h : List Entry) → drive.reset ≡ resets
             → Stands s self.now.kept h → result ≡ commanded_at s drive h }
