@@ -23,7 +23,7 @@ from egasim_tools.evidence.detection import spans_of, taken_by_class
 from egasim_tools.evidence.run_results import excess_of
 
 MOST_SWEEPS = 20
-DOCUMENTS = ("SAFETY.md", "PROVED.md", "FORMATS.md")  # of which parts stand in a page
+DOCUMENTS = ("SAFETY.md", "EVIDENCE.md", "PROVED.md", "FORMATS.md")  # of which parts stand in a page
 MOST_SWEPT_RUNS, MOST_SWEPT_TICKS = 1000, 1000000  # of a grid: docs/CONCEPT.md, "`sweep`"
 SWEPT = re.compile(r"([a-z0-9-]+): runs (\d+); (.*); reaction (\d+|none)")
 
