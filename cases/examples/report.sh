@@ -12,8 +12,8 @@ folded() { sed -n 's/.*Not shown here: //p' page.html | grep -oE '[0-9]+( to [0-
 { folded && grep -o '<th scope="row">[0-9]*\. ' page.html | grep -o '[0-9]*'; } | sort -n >told
 grep -o '^| [0-9]*\. ' tools/../docs/PROVED.md | grep -o '[0-9]*' | sort -n | cmp - told && echo "each claim is there, $(folded | wc -l) of them in a line"
 modules() { (cd tools/egasim_tools/report && sed -n 's/^from \(egasim_tools[a-z_.]*\) import.*/tools.\1/p' ../../report sections.py asking.py program_results.py verdicts.py html_parts.py) | sort -u | sed 's|[.]|/|g; s|$|.py|'; }
-for file in tools/../docs/SAFETY.md tools/../docs/PROVED.md tools/../docs/FORMATS.md tools/report $(modules) \
-  tools/report_files/page.css examples/calibration/strict.toml examples/first_run/sweep.toml examples/first_run/late.csv examples/level_1/late.hex; do
+for file in tools/../docs/SAFETY.md tools/../docs/EVIDENCE.md tools/../docs/PROVED.md tools/../docs/FORMATS.md \
+  tools/report $(modules) tools/report_files/page.css examples/calibration/strict.toml examples/first_run/sweep.toml examples/first_run/late.csv examples/level_1/late.hex; do
   grep -c "<code>$(sha256sum <"$file" | sed 's/ .*//')</code>" page.html
 done
 grep -c "<code>$(./egasim table --cal examples/calibration/strict.toml examples/first_run/sweep.toml | sha256sum | sed 's/ .*//')</code>" page.html

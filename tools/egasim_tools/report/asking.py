@@ -24,7 +24,7 @@ from egasim_tools.evidence.run_results import excess_of
 from egasim_tools.report.program_results import Played, Swept, groups_of, sounds_in
 
 MOST_SWEEPS = 20
-DOCUMENTS = ("SAFETY.md", "PROVED.md", "FORMATS.md")  # of which parts stand in a page
+DOCUMENTS = ("SAFETY.md", "EVIDENCE.md", "PROVED.md", "FORMATS.md")  # of which parts stand in a page
 
 
 class Asking(Inputs):

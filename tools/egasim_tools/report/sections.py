@@ -387,9 +387,10 @@ def claims(played):
 
 
 def not_claimed(played):
-    for heading in ("What the laws don't say", "What is proved, tested and trusted"):
+    for name, heading in (("SAFETY.md", "What the laws don't say"),
+                          ("EVIDENCE.md", "What is proved, tested and trusted")):
         yield f"<h3>{shown(heading)}</h3>"
-        yield from of_document(section_of(played.documents["SAFETY.md"], heading), heading)
+        yield from of_document(section_of(played.documents[name], heading), heading)
 
 
 def provenance(played):
