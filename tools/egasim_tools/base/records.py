@@ -61,13 +61,6 @@ def part_of(name, columns, first, last):
     return {column: values[first - begin:last + 1 - begin] for column, values in columns.items()}
 
 
-def tick_said(option, said):
-    """The tick that stands behind --from or --to."""
-    if not (said.isascii() and said.isdigit() and len(said) <= 9):
-        fail(f"{option} {said} is no tick")
-    return int(said)
-
-
 def stretches(values, first=0):
     """Where the values of the ticks from `first` on are true: (first tick, tick behind the last)."""
     begin = None

@@ -5,7 +5,7 @@ import os
 from egasim_tools.base.command_line import Form, Tool, Word, file
 from egasim_tools.base.files import read, write
 from egasim_tools.base.program import printed_by, printed_of
-from egasim_tools.base.tool import as_noted, fail
+from egasim_tools.base.tool import as_noted, fail, refuse_word
 from egasim_tools.calibration.number_edits import changed_numbers, parsed, with_questions
 from egasim_tools.calibration.question_coverage import cover_of, missing, told
 from egasim_tools.calibration.question_design import filled
@@ -40,7 +40,7 @@ def cover_told(name, calibration):
 
 def put_in(values):
     if values.cover and values.fill:
-        values.refuse("--cover and --fill are two calls")
+        refuse_word("--cover and --fill are two calls")
     name = values.file
     content = read(name)
     printed_by("answers", name)  # so that whatever is wrong with the file is told by its name

@@ -160,16 +160,3 @@ def groups_of(plan, ticks):
     draws = random.Random(plan["seed"])
     for group in itertools.product(plan["drives"], plan["images"], range(len(plan["slices"])), plan["engines"]):
         yield *group, faults_on(plan, draws, ticks[group[0]])
-
-
-def onsets_of(text):
-    """The onsets that a word names, as 0-90, 0-90/10 or 5,7."""
-    for part in text.split(","):
-        match = re.fullmatch("([0-9]{1,5})(?:-([0-9]{1,5})(?:/([1-9][0-9]{0,4}))?)?", part)
-        if not match:
-            fail(f"no onsets: {part}")
-        first, last, step = (int(number) if number else None for number in match.groups())
-        last = first if last is None else last
-        if not first <= last < TRACE_TICKS:
-            fail(f"no onsets: {part}")
-        yield from range(first, last + 1, step or 1)
