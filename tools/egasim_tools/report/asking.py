@@ -16,14 +16,13 @@ from egasim_tools.base.toml import toml_in
 from egasim_tools.base.tool import fail
 from egasim_tools.base.unit_rules import answer_of, spans_of
 from egasim_tools.base.units import beside, units_of
-from egasim_tools.calibration.parameters import calibration_of, has_ramp, threshold_of, weight_limits_of
+from egasim_tools.calibration.parameters import calibration_of, has_ramp, threshold_of, torque_weights_of, weight_limits_of
 from egasim_tools.calibration.question_coverage import cover_of, missing
 from egasim_tools.evidence.conclusive_runs import Shown, recording_shown, where
 from egasim_tools.evidence.detection import taken_by_class
 from egasim_tools.evidence.run_results import excess_of
-from egasim_tools.report.program_results import Played, Swept, groups_of, sounds_in
+from egasim_tools.report.program_results import MOST_SWEEPS, Played, Swept, groups_of, sounds_in
 
-MOST_SWEEPS = 20
 DOCUMENTS = ("SAFETY.md", "PROVED.md", "FORMATS.md")  # of which parts stand in a page
 
 
@@ -39,6 +38,7 @@ class Asking(Inputs):
         called = program()  # which builds it, if need be, before --version looks for it
         asked = asked_version()
         self.add_files(called)
+        held = calibration_of(self.calibration)
         limits, coverage = dict(line.split() for line in self.call("limits").splitlines()), self.table("coverage")
         rows, margins = self.table("table", self.campaign), self.table("margins", self.campaign)
         text = text_in(self.campaign, read(self.campaign))
@@ -50,9 +50,9 @@ class Asking(Inputs):
             self.campaign, self.calibration, units_of(tick, [self.calibration]),
             datetime.datetime.now(datetime.timezone.utc).strftime("%Y-%m-%d %H:%M UTC"), version_lines(asked=asked), limits, coverage,
             rows, margins, runs, declared(self.campaign, runs, [*sound, *sounds_in(text)]), records, resets,
-            threshold_of(self.calibration), has_ramp(self.calibration), weight_limits_of(self.calibration),
-            calibration_of(self.calibration)["pairs"], blind_for(self.calibration),
-            taken_until_found(calibration_of(self.calibration), limits, coverage, rows, records, resets),
+            threshold_of(self.calibration, held), has_ramp(held), weight_limits_of(self.calibration, held),
+            torque_weights_of(self.calibration, held), held["pairs"], blind_for(held),
+            taken_until_found(held, limits, coverage, rows, records, resets),
             {name: document(name) for name in DOCUMENTS}, commands=self.commands, sums=self.sums)
         self.add_sweeps(played, sweeps_sound)
         played.drives = {name: shown(played, name) for name in played.sound}
@@ -125,9 +125,8 @@ def declared(campaign, runs, names):
     return [name for name in runs if name in names]
 
 
-def blind_for(name):
+def blind_for(calibration):
     """What the questions of the calibration don't exercise."""
-    calibration = calibration_of(name)
     for number, question in enumerate(calibration["question"]):
         if answer_of(calibration, question) != question["answer"]:
             fail(f"answer {number} isn't what this tool works out")

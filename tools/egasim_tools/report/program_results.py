@@ -5,6 +5,7 @@ from dataclasses import dataclass, field
 
 from egasim_tools.base.units import Units
 
+MOST_SWEEPS = 20  # of a page
 SWEPT = re.compile(r"([a-z0-9-]+): runs (\d+); (.*); reaction (\d+|none)")
 SOUND = re.compile(r"^[ \t]*#[ \t]*sound:(.*)$", re.M)  # a comment of a campaign, with names of runs
 
@@ -40,6 +41,7 @@ class Played:
     threshold: int
     has_ramp: bool
     weights: dict  # the limits of the watches' weights
+    torque_weights: list  # up, down and limit of the excess of torque
     pairs: dict  # of the calibration
     blind: list  # what the questions don't exercise, in words
     taken: dict  # how long the runs of each class take until something is found

@@ -65,7 +65,7 @@ class Telling(unittest.TestCase):
         text = "\n".join(sweeps(played_of(not_asked=["sound"], left=2)))
         self.assertIn("Not swept, for they are sound drives: sound (--sweep-sound sweeps them too).", text)
         self.assertIn("2 more drives", text)
-        self.assertIn("<code>none</code> counts the runs in which no watch finds anything.", text)
+        self.assertIn("<code>none</code> is the number of runs in which no watch finds anything.", text)
         self.assertNotIn("Not swept", "\n".join(sweeps(played_of())))
 
     def test_what_finds_a_fault_is_told_in_units(self):
