@@ -21,7 +21,7 @@ from egasim_tools.calibration.question_coverage import cover_of, missing
 from egasim_tools.evidence.conclusive_runs import Shown, recording_shown, where
 from egasim_tools.evidence.detection import taken_by_class
 from egasim_tools.evidence.run_results import excess_of
-from egasim_tools.report.program_results import MOST_SWEEPS, Played, Swept, groups_of, sounds_in
+from egasim_tools.report.program_results import MOST_SWEEPS, Played, Swept, drawn_runs, sounds_in
 
 DOCUMENTS = ("SAFETY.md", "PROVED.md", "FORMATS.md")  # of which parts stand in a page
 
@@ -44,16 +44,18 @@ class Asking(Inputs):
         text = text_in(self.campaign, read(self.campaign))
         runs = {run["name"]: run for run in toml_in(self.campaign, text)["run"]}
         self.add_sums(sorted({run[key] for run in runs.values() for key in ("trace", "image")}))
-        records = {row["run"]: self.record(row["run"]) for row in rows}
-        resets = {name: drive_of(run["trace"])[1] for name, run in runs.items()}
+        drives = {trace: drive_of(trace) for trace in {run["trace"] for run in runs.values()}}
+        ticks, resets = ({name: drives[run["trace"]][place] for name, run in runs.items()} for place in (0, 1))
         played = Played(
             self.campaign, self.calibration, units_of(tick, [self.calibration]),
             datetime.datetime.now(datetime.timezone.utc).strftime("%Y-%m-%d %H:%M UTC"), version_lines(asked=asked), limits, coverage,
-            rows, margins, runs, declared(self.campaign, runs, [*sound, *sounds_in(text)]), records, resets,
+            rows, margins, runs, declared(self.campaign, runs, [*sound, *sounds_in(text)]), ticks, resets,
             threshold_of(self.calibration, held), has_ramp(held), weight_limits_of(self.calibration, held),
             torque_weights_of(self.calibration, held), held["pairs"], blind_for(held),
-            taken_until_found(held, limits, coverage, rows, records, resets),
+            taken_until_found(held, limits, coverage, rows, ticks, resets),
             {name: document(name) for name in DOCUMENTS}, commands=self.commands, sums=self.sums)
+        played.drawn = drawn_runs(played)
+        played.records = {name: self.record(name) for name in runs if name in {*played.drawn, *played.sound}}
         self.add_sweeps(played, sweeps_sound)
         played.drives = {name: shown(played, name) for name in played.sound}
         return played
@@ -73,7 +75,7 @@ class Asking(Inputs):
         swept = [runs for runs, is_left_out in groups if not is_left_out]
         played.left = max(0, len(swept) - MOST_SWEEPS)
         for runs in swept[:MOST_SWEEPS]:
-            step = step_of(len(played.records[runs[0]]["on"]), len({row["class"] for row in played.coverage}))
+            step = step_of(played.ticks[runs[0]], len({row["class"] for row in played.coverage}))
             played.sweeps.append(Swept(runs, step, self.call("sweep", self.campaign, runs[0], str(step)).splitlines()))
 
     def add_others(self, played, coupled, recordings):
@@ -133,10 +135,10 @@ def blind_for(calibration):
     return list(missing(cover_of(calibration)))
 
 
-def taken_until_found(calibration, limits, coverage, rows, records, resets):
+def taken_until_found(calibration, limits, coverage, rows, ticks, resets):
     """How long the runs of each class of fault take until something is found."""
     answers, test = calibration["answers"], int(limits["test"])
-    spans = {name: list(spans_of(resets[name], len(record["on"]), test)) for name, record in records.items()}
+    spans = {name: list(spans_of(resets[name], ticks[name], test)) for name in ticks}
     return taken_by_class(rows, coverage, (answers["first"], answers["last"]), spans)
 
 

@@ -15,12 +15,11 @@ from egasim_tools.evidence.detection import HEADS, first_of, matrix
 from egasim_tools.evidence.run_results import (CONFIRMED, EXCESS, NO_EXCESS, ONSET, R_PASSED, RESET, about_run, confirmed_of,
     cuts_of, events, excess_of, finds, given_ticks, lacking, windows)
 from egasim_tools.report.html_parts import Html, code, inline, map_inline, of_document, paragraph, section, shown, table
-from egasim_tools.report.program_results import MOST_SWEEPS
+from egasim_tools.report.program_results import MOST_DRAWN, MOST_NEAR, MOST_SWEEPS
 from egasim_tools.report.run_pictures import record_picture, sweep_picture, taken_picture
 from egasim_tools.report.verdicts import first_ramp_said, is_on_first_ramp, named, verdict
 
 MOST_EVENTS, MOST_MARKS, MOST_CUTS = 30, 12, 12
-MOST_NEAR, MOST_DRAWN = 10, 50  # runs that are drawn: that came nearest to a cut, and in all
 TAKEN = ("Of each class the most ticks from the onset, or the later begin of the span, to the one at which the first watch finds "
          "something, both counted. A dashed line is the most by <code>within</code>, where <code>hidden</code> is 0 in one row of the "
          "class, but not for a lapse, which may miss no tick at its onset; else a bar is white. Runs in which something is found before the onset, or answers are sent within their window, "
@@ -233,23 +232,12 @@ def sweep_part(place, sweep, bound, units):
     yield "</div>"
 
 
-def drawn_runs(played):
-    """The runs whose pictures stand in the page: those that were declared sound, those that are cut, and of the others the ten
-    that came nearest to a cut; in the order of the table, and fifty at most, those that come first here."""
-    cut = [row["run"] for row in played.rows if row["cut"] or row["off_at"]]
-    nearness = {row["run"]: max(int(row[watch]) / limit for watch, limit in played.weights.items()) for row in played.margins}
-    others = [name for name in nearness if name not in {*played.sound, *cut}]
-    nearest = sorted(others, key=nearness.get, reverse=True)[:MOST_NEAR]
-    chosen = set(list(dict.fromkeys([*played.sound, *cut, *nearest]))[:MOST_DRAWN])
-    return [row["run"] for row in played.rows if row["run"] in chosen]
-
-
-def not_drawn(played, drawn):
+def not_drawn(played):
     """A table of the other runs, each with the command that draws it."""
     calibration = f" --cal {shlex.quote(played.calibration)}" if played.calibration else ""
     rows = [(row["run"], row["first"], row["cut"] or "-", code(f"egasim record{calibration} {shlex.quote(played.campaign)} {row['run']} "
                                                              f"| egasim draw{calibration} >{row['run']}.svg"))
-            for row in played.rows if row["run"] not in drawn]
+            for row in played.rows if row["run"] not in played.drawn]
     if rows:
         yield paragraph(f"Drawn are the runs that were declared sound, those that are cut, and of the others the {MOST_NEAR} that came "
                         f"nearest to a cut; {MOST_DRAWN} at most. These are not:")
@@ -257,20 +245,23 @@ def not_drawn(played, drawn):
 
 
 def pictures(played):
-    weights, drawn = played.torque_weights, drawn_runs(played)
-    yield from not_drawn(played, set(drawn))
-    for place, (row, (name, record)) in enumerate(zip(played.rows, played.records.items())):
-        if name not in drawn:
-            continue
-        run, resets = played.runs[name], played.resets[name]
-        confirmed = list(confirmed_of(excess_of(record, played.threshold), weights, set(resets)))
-        yield f'<div class="run" id="run-{name}">'
-        yield f"<h3>{shown(name)}</h3>"
-        yield paragraph(Html(f"Drive {code(run['trace'])}, image {code(run['image'])}, {run.get('engine', 'gasoline')} engine"
-                             + (f", slices {code(run['slices'])}" if "slices" in run else "")
-                             + (f"; {shown(fault_said(row))}." if row["class"] != "none" else ".")))
-        yield from run_parts(played, f"run{place}", "Run", name, record, given_ticks(row, len(record["on"]), resets, confirmed),
-                             {*cuts_of(record, resets), *confirmed})
+    yield from not_drawn(played)
+    for place, row in enumerate(played.rows):
+        if row["run"] in played.drawn:
+            yield from run_drawn(played, place, row)
+
+
+def run_drawn(played, place, row):
+    name = row["run"]
+    run, resets, record = played.runs[name], played.resets[name], played.records[name]
+    confirmed = list(confirmed_of(excess_of(record, played.threshold), played.torque_weights, set(resets)))
+    yield f'<div class="run" id="run-{name}">'
+    yield f"<h3>{shown(name)}</h3>"
+    yield paragraph(Html(f"Drive {code(run['trace'])}, image {code(run['image'])}, {run.get('engine', 'gasoline')} engine"
+                         + (f", slices {code(run['slices'])}" if "slices" in run else "")
+                         + (f"; {shown(fault_said(row))}." if row["class"] != "none" else ".")))
+    yield from run_parts(played, f"run{place}", "Run", name, record, given_ticks(row, len(record["on"]), resets, confirmed),
+                         {*cuts_of(record, resets), *confirmed})
 
 
 def run_parts(played, place, kind, name, record, given, shown_near):
