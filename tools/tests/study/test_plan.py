@@ -38,7 +38,7 @@ class Checked(InFolder):
 
     def test_what_no_plan_has_is_refused(self):
         good = 'drives = ["d"]\nimages = ["i"]\n[[fault]]\nclass = "none"\n'
-        for text, note in (("x = 1\n" + good, "no plan has a key x"),
+        for text, note in (("x = 1\n" + good, "there is no key x; the keys are drives, images, engines, slices, calibration, seed, fault"),
                            (good.replace('["d"]', "[]"), "drives must be a list, and not an empty one"),
                            (good.replace('["i"]', '"i"'), "images must be a list, and not an empty one"),
                            ("fault = []\n" + good.partition("[[")[0], "fault must be a list, and not an empty one"),
