@@ -1,18 +1,17 @@
 """Whether the runs of a campaign, recordings and a calibration are as a file of expectations says. All numbers are those
 that the program prints."""
 
-import csv
 import fnmatch
 import functools
 import io
 from dataclasses import dataclass
 
 from egasim_tools.base.program import printed_by
-from egasim_tools.base.records import drive_of, record_of
+from egasim_tools.base.records import drive_of, limits_in, record_of, rows_in
 from egasim_tools.base.tool import fail
 from egasim_tools.base.units import beside
 from egasim_tools.calibration.parameters import threshold_of, weight_limits_of
-from egasim_tools.evidence.conclusive_runs import Shown, cut_said, recording_shown, where
+from egasim_tools.evidence.conclusive_runs import Shown, cut_said, excess_in_signals, recording_shown, where
 from egasim_tools.evidence.run_results import excess_of, unsettled
 from egasim_tools.study.campaigns import files_of_campaign, runs_of_campaign
 
@@ -29,7 +28,7 @@ class Verdict:
 def verdicts(expected, is_strict):
     """The verdict on each line of a file of expectations, and on each run that no line names."""
     calibration = ["--cal", expected.calibration] if expected.calibration else []
-    limits = functools.cache(lambda: dict(line.split() for line in printed_by("limits", *calibration).splitlines()))
+    limits = functools.cache(lambda: limits_in(printed_by("limits", *calibration)))
     yield from limit_verdicts(expected, limits)
     if expected.campaign:
         yield from run_verdicts(expected, shown_runs(expected, calibration, limits), is_strict)
@@ -75,9 +74,9 @@ def run_verdicts(expected, runs, is_strict):
 
 def shown_runs(expected, calibration, limits):
     """What each run of the campaign shows, by its name."""
-    rows = table_of("table", *calibration, expected.campaign)
+    rows = rows_in(printed_by("table", *calibration, expected.campaign))
     needs_room = any(check.key == "room" for entry in expected.runs for check in entry.checks)
-    margins = {row["run"]: row for row in table_of("margins", *calibration, expected.campaign)} if needs_room else {}
+    margins = {row["run"]: row for row in rows_in(printed_by("margins", *calibration, expected.campaign))} if needs_room else {}
     most = weight_limits_of(expected.calibration) if needs_room else {}
     runs, drives, shown = runs_of_campaign(expected.campaign), {}, {}
     if list(runs) != [row["run"] for row in rows] or needs_room and list(margins) != list(runs):
@@ -96,15 +95,6 @@ def excess_in_run(expected, calibration, name):
     """The ticks of a run with a true excess."""
     record = record_of(name, io.StringIO(printed_by("record", *calibration, expected.campaign, name)))
     return where(excess_of(record, threshold_of(expected.calibration)))
-
-
-def excess_in_signals(text):
-    """The ticks of a recording with an excess."""
-    return where(row["excess"] == "1" for row in csv.DictReader(io.StringIO(text)))
-
-
-def table_of(*words):
-    return list(csv.DictReader(io.StringIO(printed_by(*words))))
 
 
 def verdict(subject, check, shown, units):

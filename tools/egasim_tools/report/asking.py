@@ -1,6 +1,5 @@
 """The calls of the program that a page is made of, and the checksums of all that goes into the page."""
 
-import csv
 import datetime
 import io
 import os
@@ -11,14 +10,14 @@ from egasim_tools.base.files import TOOLS, TOP, read, sum_of, text_in
 from egasim_tools.base.inputs import Inputs
 from egasim_tools.base.program import asked_version, printed_by, program, version_lines
 from egasim_tools.base.ranges import CAMPAIGN_TICKS, RUNS
-from egasim_tools.base.records import drive_of, record_of
+from egasim_tools.base.records import drive_of, limits_in, record_of, rows_in
 from egasim_tools.base.toml import toml_in
 from egasim_tools.base.tool import fail
 from egasim_tools.base.unit_rules import answer_of, spans_of
 from egasim_tools.base.units import beside, units_of
 from egasim_tools.calibration.parameters import calibration_of, has_ramp, threshold_of, torque_weights_of, weight_limits_of
 from egasim_tools.calibration.question_coverage import cover_of, missing
-from egasim_tools.evidence.conclusive_runs import Shown, recording_shown, where
+from egasim_tools.evidence.conclusive_runs import Shown, excess_in_signals, recording_shown, where
 from egasim_tools.evidence.detection import taken_by_class
 from egasim_tools.evidence.run_results import excess_of
 from egasim_tools.report.program_results import MOST_SWEEPS, Played, Swept, drawn_runs, sounds_in
@@ -39,7 +38,7 @@ class Asking(Inputs):
         asked = asked_version()
         self.add_files(called)
         held = calibration_of(self.calibration)
-        limits, coverage = dict(line.split() for line in self.call("limits").splitlines()), self.table("coverage")
+        limits, coverage = limits_in(self.call("limits")), self.table("coverage")
         rows, margins = self.table("table", self.campaign), self.table("margins", self.campaign)
         text = text_in(self.campaign, read(self.campaign))
         runs = {run["name"]: run for run in toml_in(self.campaign, text)["run"]}
@@ -95,7 +94,7 @@ class Asking(Inputs):
         found = recording_shown(text)
         if found.row["cut"] or found.row["stretch"] == "0":
             return frozenset
-        ticks = where(row["excess"] == "1" for row in csv.DictReader(io.StringIO(self.call("signals", given=name))))
+        ticks = excess_in_signals(self.call("signals", given=name))
         return lambda: ticks
 
     def files(self):
@@ -111,7 +110,7 @@ class Asking(Inputs):
         return text
 
     def table(self, *words):
-        return list(csv.DictReader(io.StringIO(self.call(*words))))
+        return rows_in(self.call(*words))
 
     def record(self, name):
         return record_of(name, io.StringIO(self.call("record", self.campaign, name)))

@@ -2,6 +2,7 @@
 
 import csv
 
+from egasim_tools.base.records import rows_looked_at
 from egasim_tools.base.tool import fail
 from egasim_tools.calibration.parameters import WATCHES, weight_limits_of
 from egasim_tools.report.gnuplot import DARK, INK, PIXELS, TOP_OF_FOUND, block, looks_of, named_places, quoted
@@ -14,17 +15,13 @@ def weights_of(name, lines, limits):
     """The names of the runs, and of each watch that was fed with something bad its weights in per cent of the limit."""
     names, weights = [], {watch: [] for watch in WATCHES}
     rows = csv.DictReader(lines)
-    try:
+    with rows_looked_at(f"{name} has no margins", rows):
         for row in rows:
             names.append(row["run"])
             for watch, limit in limits.items():
                 if int(row[watch]) > limit:
                     fail(f"{name} is by another calibration: {watch} has {row[watch]} of {limit}")
                 weights[watch].append(100 * int(row[watch]) / limit)
-    except (KeyError, TypeError, ValueError):
-        fail(f"{name} has no margins: line {rows.line_num} has no such row")
-    except csv.Error:
-        fail(f"{name} has no margins: line {rows.line_num + 1} isn't one of CSV")
     return names, {watch: shares for watch, shares in weights.items() if any(shares)}
 
 

@@ -2,7 +2,7 @@
 
 import csv
 
-from egasim_tools.base.records import part_of
+from egasim_tools.base.records import part_of, rows_looked_at
 from egasim_tools.base.tool import fail
 from egasim_tools.base.units import Units
 from egasim_tools.calibration.parameters import MOST_NUMBER, WATCHES, threshold_of, weight_limits_of
@@ -18,12 +18,8 @@ HEIGHT = 760
 def signals_of(name, lines):
     """The columns of the text of `signals`, by their names: numbers, and what is found."""
     rows = csv.DictReader(lines)
-    try:
+    with rows_looked_at(f"{name} has no signals", rows):
         ticks = [[*(int(row[column]) for column in SIGNALS), row["found"].strip()] for row in rows]
-    except (AttributeError, KeyError, TypeError, ValueError):
-        fail(f"{name} has no signals: line {rows.line_num} has no such row")
-    except csv.Error:
-        fail(f"{name} has no signals: line {rows.line_num + 1} isn't one of CSV")
     if not ticks:
         fail(f"{name} has no tick below its header")
     for place, tick in enumerate(ticks, ticks[0][0]):

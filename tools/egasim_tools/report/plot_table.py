@@ -3,6 +3,7 @@
 import csv
 
 from egasim_tools.base.program import reaction_bound
+from egasim_tools.base.records import rows_looked_at
 from egasim_tools.base.tool import fail
 from egasim_tools.base.units import Units
 from egasim_tools.report.gnuplot import DARK, INK, block, looks_of, quoted, tick_axis
@@ -15,17 +16,13 @@ def points_of(name, lines):
     """For each class of the table with a reaction under a fault the greatest reaction of each onset; and R of its rows."""
     points, bounds = {}, set()
     rows = csv.reader(lines)
-    try:
+    with rows_looked_at(f"{name} is no table", rows):
         at = {name: place for place, name in enumerate(next(rows))}
         for row in filter(None, rows):
             bounds.add(int(row[at["bound"]]))
             if row[at["onset"]] and row[at["reaction"]]:
                 onset, places = int(row[at["onset"]]), points.setdefault(row[at["class"]], {})
                 places[onset] = max(places.get(onset, 0), int(row[at["reaction"]]))
-    except (IndexError, KeyError, ValueError):
-        fail(f"{name} is no table: line {rows.line_num} has no such row")
-    except csv.Error:
-        fail(f"{name} is no table: line {rows.line_num} isn't one of CSV")
     if not points:
         fail(f"{name} has no run with a reaction under a fault")
     return points, single_bound(name, bounds)
