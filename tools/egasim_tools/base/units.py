@@ -137,4 +137,6 @@ def ticks_of(word, said, units):
     """The ticks of a time behind a word of the call, as a fraction; its text is 300ms or so, or a number of ticks."""
     if said.isdigit():
         return Fraction(int(said))
-    return Fraction(time_of(said), units.tick) if units else refuse_word(f"{word} {said}: how long a tick is has to be said (--tick 10ms)")
+    if not units:
+        refuse_word(f"{word} {said}: how long a tick is has to be said (--tick 10ms)")
+    return Fraction(time_of(said), units.tick)

@@ -60,7 +60,9 @@ def range_of(part):
         refuse(f"{told} has no step, as 50-150/25 has")
     if last < first:
         refuse(f"{told} begins above its end")
-    return range(first, last + 1, step) if (last - first) // step < MOST_ROWS else refuse(f"{told} has more than {MOST_ROWS} torques")
+    if (last - first) // step >= MOST_ROWS:
+        refuse(f"{told} has more than {MOST_ROWS} torques")
+    return range(first, last + 1, step)
 
 
 def written(search, row):

@@ -32,6 +32,13 @@ def kind_of(name, lines):
                 None) or fail(f"{name} is no record, sweep, table, margins or signals")
 
 
+def shown_of(kind, files):
+    """What a picture of this kind shows of (name, lines, calibration) of each file."""
+    if len(files) > 1 and kind.ALONE:
+        fail(kind.ALONE)
+    return [kind.read(*one) for one in files]
+
+
 def files_of(words):
     """(name, lines, calibration) of each file. argparse doesn't say which options stand before a file, so the words, which it has
     taken, are gone through again; each of these options has something behind it."""
@@ -66,7 +73,7 @@ def plotted(values):
     if kind not in OF_TICKS and (first, last) != (None, None):
         refuse_word("--from and --to are for records and signals")
     instead = "; egasim draw draws a record without it" * (kind is plot_records)
-    draw(picture, *kind.picture(files, first, last, units=units), instead)
+    draw(picture, *kind.picture(shown_of(kind, files), first, last, units=units), instead)
 
 
 PLOT = Tool(
