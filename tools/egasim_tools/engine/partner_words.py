@@ -24,8 +24,9 @@ def noise_in(text):
 def said(values):
     """Prints the options as variables of the shell, and the other words as those of its call."""
     calibration = ["--cal", values.cal] if values.cal else []
-    print(f"noise={shlex.quote(values.noise or '')} recording={shlex.quote(values.recording or '')}")
-    print(f"set -- {shlex.join([values.partner, *calibration, values.campaign, values.run])}")
+    options = f"noise={shlex.quote(values.noise or '')} recording={shlex.quote(values.recording or '')}"
+    words = shlex.join([values.partner, *calibration, values.campaign, values.run])
+    sys.stdout.buffer.write(os.fsencode(f"{options}\nset -- {words}\n"))  # also a name that isn't UTF-8
 
 
 PARTNER = Tool(
