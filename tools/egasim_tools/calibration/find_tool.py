@@ -161,7 +161,8 @@ FIND = Tool(
              default="0"),
         Word("--room", "how much of each limit the weights have to leave; 0 without it", Kind(room_percent, "0 to 99 per cent"),
              "PERCENT", default=0),
-        Word("--thresholds", "in tenths of Nm, as 0-800/25 or 150,200; without it 0-800/25", TORQUES, "RANGE", default=torques_in("0-800/25")),
+        Word("--thresholds", "in tenths of Nm, as 0-800/25 or 150,200; without it 0-800/25", TORQUES, "RANGE",
+             default=torques_in("0-800/25")),
         Word("--ramps", "ramps to try with each threshold: by how much the permitted torque may fall in a tick, in tenths of Nm, as "
              "0,50-150/25, where 0 stands for no ramp; without it the ramp of START, or none", TORQUES, "FALLS"),
         *SAYS,

@@ -15,7 +15,9 @@ def classes_of(text):
     """The classes of faults that a word names."""
     kinds = list(FAULTS) if text == "all" else text.split(",")
     unknown = next((kind for kind in kinds if kind not in FAULTS), None)
-    return kinds if unknown is None else refuse(f"no class {unknown}; the classes are {', '.join(FAULTS)}; all stands for each of them")
+    if unknown is not None:
+        refuse(f"no class {unknown}; the classes are {', '.join(FAULTS)}; all stands for each of them")
+    return kinds
 
 
 def onsets_of(text):
