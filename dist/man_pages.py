@@ -88,8 +88,8 @@ def page(text, version, program, is_another, tools):
 def tool_page(tool, version):
     """The page of a tool, from its declaration."""
     yield from [*head(f"egasim-{tool.name}", version, tool.does), ".SH SYNOPSIS"]
-    for form in tool.forms:
-        yield from [".TP", rf"\&\fB{escaped(form.usage(tool.name), True)}\fR", escaped(form.does, False)]
+    for form, usage in zip(tool.forms, tool.usages()):
+        yield from [".TP", rf"\&\fB{escaped(usage, True)}\fR", escaped(form.does, False)]
     yield ".SH WORDS"
     for word in tool.words():
         yield from [".TP", rf"\&\fB{escaped(word.said(), True)}\fR", rf"\&{escaped(word.about(), False)}"]

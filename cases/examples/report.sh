@@ -11,7 +11,7 @@ is_there '<li id="A[0-9]*">' '^- \*\*A[0-9]*\. ' SAFETY.md assumption
 folded() { sed -n 's/.*Not shown here: //p' page.html | grep -oE '[0-9]+( to [0-9]+)?' | while read -r first _ last; do seq "$first" "${last:-$first}"; done; }
 { folded && grep -o '<th scope="row">[0-9]*\. ' page.html | grep -o '[0-9]*'; } | sort -n >told
 grep -o '^| [0-9]*\. ' tools/../docs/PROVED.md | grep -o '[0-9]*' | sort -n | cmp - told && echo "each claim is there, $(folded | wc -l) of them in a line"
-modules() { (cd tools/egasim_tools/report && sed -n 's/^from \(egasim_tools[a-z_.]*\) import.*/tools.\1/p' ../../report sections.py asking.py program_results.py verdicts.py html_parts.py) | sort -u | sed 's|[.]|/|g; s|$|.py|'; }
+modules() { (cd tools/egasim_tools/report && sed -n 's/^from \(egasim_tools[a-z_.]*\) import.*/tools.\1/p' ../../report report_tool.py sections.py asking.py program_results.py verdicts.py html_parts.py) | sort -u | sed 's|[.]|/|g; s|$|.py|'; }
 for file in tools/../docs/SAFETY.md tools/../docs/EVIDENCE.md tools/../docs/PROVED.md tools/../docs/FORMATS.md \
   tools/report $(modules) tools/report_files/page.css examples/calibration/strict.toml examples/first_run/sweep.toml examples/first_run/late.csv examples/level_1/late.hex; do
   grep -c "<code>$(sha256sum <"$file" | sed 's/ .*//')</code>" page.html

@@ -10,7 +10,7 @@ from dataclasses import dataclass
 from types import SimpleNamespace
 
 from egasim_tools.base.program import CALLS
-from egasim_tools.base.tool import TOOL, as_noted, guarded
+from egasim_tools.base.tool import TOOL, guarded, refuse_word
 from egasim_tools.base.units import tick_of, time_of
 
 WIDTH, BESIDE = 100, 26  # columns of a help, and from which on it says what a word is
@@ -55,8 +55,8 @@ class Word:
         if self.kind is None:
             parser.add_argument(self.name, action="store_true")
         elif self.is_option():
-            several = {"action": "append", "default": []} if self.is_several else {"action": Once, "default": self.default}
-            parser.add_argument(self.name, type=self.kind.value, metavar=self.shown, required=self.is_needed, **several)
+            parser.add_argument(self.name, type=self.kind.value, metavar=self.shown, required=self.is_needed,
+                                action="append" if self.is_several else Once, default=[] if self.is_several else self.default)
         else:
             number = ("+" if self.is_several else None) if self.is_needed else ("*" if self.is_several else "?")
             parser.add_argument(self.name, type=self.kind.value, nargs=number)
@@ -72,10 +72,11 @@ class Form:
     rest: str = ""
 
     def usage(self, tool):
+        """How it is called, where `tool` is how the tool is."""
         placed = [word.said() + " .." * (word.is_several and not word.is_option()) for word in self.words if word.is_needed]
         placed += [f"[{word.said()}]" for word in self.words if not word.is_option() and not word.is_needed]
         options = ["[OPTIONS]"] * any(word.is_option() and not word.is_needed for word in self.words)
-        return " ".join(filter(None, ["egasim", tool, self.command, *options, *placed, self.rest]))
+        return " ".join(filter(None, [tool, self.command, *options, *placed, self.rest]))
 
     def values(self, words):
         """What the words of a call say, by the names of the declared ones in small letters."""
@@ -86,7 +87,7 @@ class Form:
             word.added_to(parser)
         values = {name.lower(): value for name, value in vars(parser.parse_intermixed_args(words)).items()}
         CALLS["shown"] = values.get("verbose", False)
-        return SimpleNamespace(**values, all=words, rest=rest, refuse=parser.error)
+        return SimpleNamespace(**values, all=words, rest=rest)
 
 
 @dataclass(frozen=True)
@@ -100,6 +101,10 @@ class Tool:
     refused: int = 1
     needs_words: bool = True
     place: str = "docs/TOOLS.md"  # where more is said
+    folder: str = "egasim "  # what stands before its name in a call
+
+    def usages(self):
+        return [form.usage(f"{self.folder}{self.name}") for form in self.forms]
 
     def words(self):
         return list({word.name: word for form in self.forms for word in form.words}.values())
@@ -122,8 +127,8 @@ class Tool:
     def help(self):
         """What --help prints."""
         lines = [*wrapped(f"{self.does[:1].upper()}{self.does[1:]}."), ""]
-        for form in self.forms:
-            lines += [*wrapped(form.usage(self.name), "  ", 10), *wrapped(form.does, " " * 6)]
+        for form, usage in zip(self.forms, self.usages()):
+            lines += [*wrapped(usage, "  ", 10), *wrapped(form.does, " " * 6)]
         lines.append("")
         for word in self.words():
             first, about = f"  {word.said()}", wrapped(word.about(), " " * BESIDE)
@@ -135,11 +140,13 @@ class Tool:
 
 
 class Once(argparse.Action):
-    """An option that stands once."""
+    """An option that stands once. The declared words of a call are read by one parser, which is made for it."""
+    has_stood = False
 
     def __call__(self, parser, values, value, option_string=None):
-        if getattr(values, self.dest) != self.default:
+        if self.has_stood:
             raise argparse.ArgumentError(self, "stands twice")
+        self.has_stood = True
         setattr(values, self.dest, value)
 
 
@@ -147,8 +154,7 @@ class Parser(argparse.ArgumentParser):
     """One that tells what is wrong in a line."""
 
     def error(self, message):
-        print(as_noted(f"{TOOL}: {message.removeprefix('argument ')}; --help tells the words"), file=sys.stderr)
-        sys.exit(2)
+        refuse_word(message.removeprefix("argument "))
 
 
 def wrapped(text, blanks="", more=0):

@@ -1,5 +1,6 @@
-"""Records of runs, as `record` and `couple` print them, the curves that are drawn of their columns, and drives."""
+"""What commands print: limits, tables, and records with the curves that are drawn of their columns; and drives."""
 
+import contextlib
 import csv
 import io
 
@@ -10,19 +11,37 @@ from egasim_tools.calibration.parameters import MOST_NUMBER
 COLUMNS = ("tick", "torque", "limit", "path1", "path2", "on")
 
 
+def limits_in(text):
+    """The lines of `limits`, by their names."""
+    return dict(line.split() for line in text.splitlines())
+
+
+def rows_in(text):
+    """The rows of a table that a command printed."""
+    return list(csv.DictReader(io.StringIO(text)))
+
+
+@contextlib.contextmanager
+def rows_looked_at(name, rows, lacking="has no such row"):
+    """Ends if a row of CSV that is read here isn't one, or lacks what is looked for; `name` says also what the file isn't."""
+    reader = getattr(rows, "reader", rows)
+    try:
+        yield
+    except csv.Error:
+        fail(f"{name}: line {reader.line_num} isn't one of CSV")
+    except (AttributeError, LookupError, TypeError, ValueError):
+        fail(f"{name}: line {reader.line_num} {lacking}")
+
+
 def record_of(name, lines):
     """The columns of a record that a picture needs, by their names: numbers, and what is found."""
     rows = csv.DictReader(lines)
-    try:
+    with rows_looked_at(f"{name} is no record", rows, "has no numbers of a tick"):
         if not set(COLUMNS) <= set(rows.fieldnames or ()):
             fail(f"{name} is {'no record' if rows.fieldnames else 'empty'}: was the run refused?")
         # The first row of a record by `couple` has no tick: it only tells what is commanded.
         ticks = [[*(int(row[column]) for column in COLUMNS), whole(name, rows.line_num, row).get("found") or "-"]
                  for row in rows if row["torque"] != "-"]
-    except (TypeError, ValueError):
-        fail(f"{name} is no record: line {rows.line_num} has no numbers of a tick")
-    except csv.Error:
-        fail(f"{name} is no record: line {rows.line_num + 1} isn't one of CSV")
     if not ticks:
         fail(f"{name} has no tick below its header")
     for place, tick in enumerate(ticks):
@@ -59,13 +78,6 @@ def part_of(name, columns, first, last):
     if first > last:
         fail(f"{name} has ticks {begin} to {end}, and none of those that are asked for")
     return {column: values[first - begin:last + 1 - begin] for column, values in columns.items()}
-
-
-def tick_said(option, said):
-    """The tick that stands behind --from or --to."""
-    if not (said.isascii() and said.isdigit() and len(said) <= 9):
-        fail(f"{option} {said} is no tick")
-    return int(said)
 
 
 def stretches(values, first=0):

@@ -43,6 +43,22 @@ def toml_in(name, text):
     return fail(f"{name}: too deep") if level else held
 
 
+def check_keys(place, table, keys):
+    """Ends if this isn't a table, or has another key."""
+    if not isinstance(table, dict):
+        fail(f"{place} must be a table")
+    for key in table:
+        if key not in keys:
+            fail(f"{place}: there is no key {key}; the keys are {', '.join(keys)}")
+
+
+def whole_in(place, value, most, least=0):
+    """A whole number of this range, or the end."""
+    if type(value) is not int or not least <= value <= most:
+        fail(f"{place} must be a whole number from {least} to {most}")
+    return value
+
+
 def parts_of(value):
     """What a value holds, if it is a list or a table."""
     return value.values() if isinstance(value, dict) else value if isinstance(value, list) else ()

@@ -23,6 +23,12 @@ def fail(text):
     sys.exit(f"{TOOL}: {as_noted(text)}")
 
 
+def refuse_word(text):
+    """Ends the tool with one line on the words of its call, and the status 2."""
+    print(as_noted(f"{TOOL}: {text}; --help tells the words"), file=sys.stderr)
+    sys.exit(2)
+
+
 def guarded(main, refused=1):
     """Calls a tool's main function. What the system refuses, and an end by the user, are told in one line or none. A tool
     whose status 1 is a verdict has another one for what it refuses."""
@@ -101,12 +107,3 @@ def leave_output():
     """Leaves out what isn't written yet, so that Python doesn't try to write it at its end."""
     with contextlib.suppress(OSError, AttributeError):
         os.dup2(os.open(os.devnull, os.O_WRONLY), sys.stdout.fileno())
-
-
-def words_or_help(text):
-    """The words of a call of a script of dist/; with --help, or without any, what it is for."""
-    words = sys.argv[1:]
-    if words and words[0] not in ("-h", "--help"):
-        return words
-    print(text, file=sys.stdout if words else sys.stderr)
-    sys.exit(0 if words else 2)

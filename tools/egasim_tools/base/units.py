@@ -5,7 +5,7 @@ import re
 from fractions import Fraction
 
 from egasim_tools.base.toml import toml_of
-from egasim_tools.base.tool import fail
+from egasim_tools.base.tool import fail, refuse_word
 
 NAME = "units.toml"  # beside a calibration: how long its ticks are, `tick = "10ms"`
 TIME = re.compile(r"(\d{1,9}(?:\.\d{1,9})?) ?(us|ms|s)")
@@ -134,10 +134,9 @@ def units_of(said, calibrations, own=None):
 
 
 def ticks_of(word, said, units):
-    """The ticks of a time behind a word of the call, as a fraction: 300ms, or a number of ticks."""
-    if re.fullmatch("[0-9]{1,9}", said):
+    """The ticks of a time behind a word of the call, as a fraction; its text is 300ms or so, or a number of ticks."""
+    if said.isdigit():
         return Fraction(int(said))
-    time = time_of(said)
-    if time is None:
-        fail(f"{word} {said} is no time, such as 300ms or 0.3s, and no number of ticks")
-    return Fraction(time, units.tick) if units else fail(f"{word} {said}: how long a tick is has to be said (--tick 10ms)")
+    if not units:
+        refuse_word(f"{word} {said}: how long a tick is has to be said (--tick 10ms)")
+    return Fraction(time_of(said), units.tick)

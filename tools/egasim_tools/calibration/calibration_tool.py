@@ -63,10 +63,6 @@ def tell_differences(old, new, map_name):
     sys.exit(1 if lines else 0)
 
 
-def told_by(values):
-    return f"{os.path.basename(values.cal) if values.cal else 'the reference calibration'} by {os.path.basename(values.map)}"
-
-
 MAP = Word("MAP", "which label has which key of a calibration", file("toml"), is_needed=True)
 PARTIAL = Word("--partial", "a label that isn't there is told, and its key stays as in BASE; else it is refused")
 CALIBRATION = Tool(

@@ -5,12 +5,12 @@ import sys
 import tempfile
 from types import SimpleNamespace
 
-from egasim_tools.base.command_line import TEXT, TICK_LENGTH, TIME, VERBOSE, Form, Kind, Tool, Word, file, whole
+from egasim_tools.base.command_line import TICK_LENGTH, TIME, VERBOSE, Form, Kind, Tool, Word, file, refuse, whole
 from egasim_tools.base.files import refuse_input, room_in, write
 from egasim_tools.base.inputs import Inputs
 from egasim_tools.base.program import program
 from egasim_tools.base.ranges import RAISE
-from egasim_tools.base.tool import TOOL, as_noted, fail
+from egasim_tools.base.tool import TOOL, as_noted, fail, refuse_word
 from egasim_tools.base.units import beside, ticks_of, units_of
 from egasim_tools.calibration.limit_search import Search
 from egasim_tools.calibration.number_edits import parsed, with_questions
@@ -33,41 +33,36 @@ def said_of(said, units):
 
 def rows_of(thresholds, ramps):
     """The thresholds and the ramps that are tried: first no ramp, 0, and last the flattest; None is that of START."""
-    told = torques_of("--thresholds", thresholds)
-    falls = sorted(torques_of("--ramps", ramps), key=lambda fall: (fall > 0, -fall)) if ramps else None
-    if len(told) * len(falls or [None]) > MOST_ROWS:
-        fail(f"{len(told)} thresholds, each with {len(falls or [None])} ramps, are more than {MOST_ROWS} rows")
-    return {"thresholds": told, "ramps": falls}
+    falls = ramps and sorted(ramps, key=lambda fall: (fall > 0, -fall))
+    if len(thresholds) * len(falls or [None]) > MOST_ROWS:
+        refuse_word(f"{len(thresholds)} thresholds, each with {len(falls or [None])} ramps, are more than {MOST_ROWS} rows")
+    return {"thresholds": thresholds, "ramps": falls}
 
 
-def torques_of(word, said):
-    """The torques that stand behind a word, each once, in rising order."""
-    told = set()
-    for part in said.split(","):
-        named = range_of(part)
-        if isinstance(named, str):
-            fail(f"{word} {said}: {part or 'an empty part'} {named}")
-        told.update(named)
-    return sorted(told)
+def torques_in(text):
+    """The torques that a word names, each once, in rising order."""
+    return sorted({torque for part in text.split(",") for torque in range_of(part)})
 
 
 def range_of(part):
-    """The torques of a part such as 150 or 0-800/25; or why it has none."""
-    match = RANGE.fullmatch(part)
+    """The torques of a part such as 150 or 0-800/25."""
+    match, told = RANGE.fullmatch(part), part or "an empty part"
     if re.fullmatch(r"[0-9]*\.[0-9]+", part):
-        return "isn't whole, and torques are whole tenths of Nm"
+        refuse(f"{told} isn't whole, and torques are whole tenths of Nm")
     if not match:
-        return "is neither a number nor a range, such as 50-150/25"
+        refuse(f"{told} is neither a number nor a range, such as 50-150/25")
     first, last, step = (number and int(number) for number in match.groups())
     if max(first, last or 0) > RAISE:
-        return f"is above {RAISE}"
+        refuse(f"{told} is above {RAISE}")
     if last is None:
         return [first]
     if not step:
-        return "has no step, as 50-150/25 has"
+        refuse(f"{told} has no step, as 50-150/25 has")
     if last < first:
-        return "begins above its end"
-    return range(first, last + 1, step) if (last - first) // step < MOST_ROWS else f"has more than {MOST_ROWS} torques"
+        refuse(f"{told} begins above its end")
+    if (last - first) // step >= MOST_ROWS:
+        refuse(f"{told} has more than {MOST_ROWS} torques")
+    return range(first, last + 1, step)
 
 
 def written(search, row):
@@ -112,7 +107,7 @@ def inputs_of(words):
 def asked(values):
     """The values of the call, with what they come to by its units."""
     if not values.drives and not values.recording:
-        values.refuse("a campaign of sound drives is needed, or a recording")
+        refuse_word("a campaign of sound drives is needed, or a recording")
     units = units_of(values.tick, [values.cal])
     tolerant, falls = ticks_of("--tolerant", values.tolerant, units), -(-ticks_of("--falls", values.falls, units) // 1)
     return SimpleNamespace(
@@ -152,6 +147,7 @@ def room_percent(text):
     return whole(0, 99).value(text.removesuffix("%"))
 
 
+TORQUES = Kind(torques_in)
 FIND = Tool(
     "find", "finds the calibrations by which no sound drive is cut and an excess of torque ends in time, for each threshold the best",
     (Form("tells a row for each threshold and ramp, and the first that fits", found, (
@@ -165,9 +161,10 @@ FIND = Tool(
              default="0"),
         Word("--room", "how much of each limit the weights have to leave; 0 without it", Kind(room_percent, "0 to 99 per cent"),
              "PERCENT", default=0),
-        Word("--thresholds", "in tenths of Nm, as 0-800/25 or 150,200; without it 0-800/25", TEXT, "RANGE", default="0-800/25"),
+        Word("--thresholds", "in tenths of Nm, as 0-800/25 or 150,200; without it 0-800/25", TORQUES, "RANGE",
+             default=torques_in("0-800/25")),
         Word("--ramps", "ramps to try with each threshold: by how much the permitted torque may fall in a tick, in tenths of Nm, as "
-             "0,50-150/25, where 0 stands for no ramp; without it the ramp of START, or none", TEXT, "FALLS"),
+             "0,50-150/25, where 0 stands for no ramp; without it the ramp of START, or none", TORQUES, "FALLS"),
         *SAYS,
         Word("--recording", "a recording that mustn't be cut either, of those that replay reads", file("csv"), "FILE", is_several=True),
         Word("--misses", "wrong answers after so many missed ticks mustn't cut; without it 1, so that N of limits is 3",

@@ -8,7 +8,7 @@ from fractions import Fraction
 from math import ceil, floor
 
 from egasim_tools.base.files import text_of
-from egasim_tools.base.toml import toml_in
+from egasim_tools.base.toml import check_keys, toml_in
 from egasim_tools.base.tool import fail
 from egasim_tools.base.units import decimal
 from egasim_tools.calibration.dcm import Label, quoted, written_label
@@ -111,11 +111,7 @@ def value_of(place, table):
 
 
 def scale_of(place, table, keys):
-    if not isinstance(table, dict):
-        fail(f"{place} must be a table")
-    for key in table:
-        if key not in keys:
-            fail(f"{place}: there is no key {key}; the keys are {', '.join(keys)}")
+    check_keys(place, table, keys)
     key, factor, unit, name = table.get("key"), table.get("factor", 1), table.get("unit"), table.get("name")
     if key not in WORTH:
         fail(f"{place}: key must be one of {', '.join(WORTH)}")

@@ -5,7 +5,6 @@ What the limits come to isn't tried out: with limits that are never reached the 
 run, and a watch finds something exactly if its weight reaches its limit. So one more than the greatest weight is the least
 limit, of each threshold and ramp that is played."""
 
-import csv
 import io
 import itertools
 import os
@@ -15,7 +14,7 @@ from dataclasses import dataclass, field
 
 from egasim_tools.base.files import read
 from egasim_tools.base.program import note_in, run
-from egasim_tools.base.records import drive_of, record_of
+from egasim_tools.base.records import drive_of, limits_in, record_of, rows_in
 from egasim_tools.base.tool import TOOL, as_noted, fail
 from egasim_tools.calibration.key_edits import with_ramp
 from egasim_tools.calibration.number_edits import parsed, with_numbers
@@ -97,13 +96,13 @@ class Search:
         return done.stdout.decode()
 
     def limits_by(self, path):
-        return dict(line.split() for line in self.call("limits", "--cal", path).splitlines())
+        return limits_in(self.call("limits", "--cal", path))
 
     def weights_by(self, path):
         """The greatest weights of each run and each recording by a calibration: {name: {watch: weight}}."""
         told = {}
         if self.drives:
-            for row in csv.DictReader(io.StringIO(self.call("margins", "--cal", path, self.drives))):
+            for row in rows_in(self.call("margins", "--cal", path, self.drives)):
                 if row["class"] not in ("none", "lapse"):
                     fail(f"{self.drives}: {row['run']} has a fault; drives that are to be let through have none, or a lapse")
                 told[row["run"]] = {watch: int(row[watch]) for watch in [*PAIRS, "torque"]}
@@ -115,7 +114,7 @@ class Search:
 
     def shown_by(self, path):
         """What each run and each recording shows by a calibration. One that shows nothing of its drive ends the search."""
-        rows = list(csv.DictReader(io.StringIO(self.call("table", "--cal", path, self.drives)))) if self.drives else []
+        rows = rows_in(self.call("table", "--cal", path, self.drives)) if self.drives else []
         runs = runs_of_campaign(self.drives) if rows else {}
         told = {row["run"]: Shown(row, {}, *self.drive(runs[row["run"]]["trace"]), run=runs[row["run"]], test=self.test) for row in rows}
         told |= self.recordings_by(path)
@@ -140,7 +139,7 @@ class Search:
         reached; each is asked for once, since a threshold alone changes nothing of that."""
         if (name, fall) not in self.beyond:
             if name in self.asked.recordings:
-                rows = csv.DictReader(io.StringIO(self.call("signals", "--cal", path, given=name)))
+                rows = rows_in(self.call("signals", "--cal", path, given=name))
                 self.beyond[name, fall] = [int(row["actual"]) - int(row["permitted"]) for row in rows]
             else:
                 record = record_of(name, io.StringIO(self.call("record", "--cal", path, self.drives, name)))

@@ -15,36 +15,35 @@ def calibration_of(name):
     return toml_of(name or os.path.join(TOP, "examples", "calibration", "reference.toml"))
 
 
-def threshold_of(calibration):
-    """The threshold of a calibration file, or of the reference calibration, in tenths of Nm."""
-    permit = calibration_of(calibration).get("permit")
+def threshold_of(name, held=None):
+    """The threshold of a calibration, in tenths of Nm; `held` is what it has, if it was read already."""
+    permit = (held or calibration_of(name)).get("permit")
     threshold = permit.get("threshold") if isinstance(permit, dict) else None
     if type(threshold) is not int or not 0 <= threshold <= MOST_NUMBER:
-        fail(f"{calibration or 'the reference calibration'} has no number permit.threshold")
+        fail(f"{name or 'the reference calibration'} has no number permit.threshold")
     return threshold
 
 
-def has_ramp(calibration):
-    """Whether the permitted torque comes down a ramp by a calibration file: it does by version 3 of the format."""
-    permit = calibration_of(calibration).get("permit")
-    return isinstance(permit, dict) and "fall" in permit
+def has_ramp(held):
+    """Whether the permitted torque comes down a ramp by what a calibration has: it does by version 3 of the format."""
+    return isinstance(held.get("permit"), dict) and "fall" in held["permit"]
 
 
-def torque_weights_of(calibration):
-    """How the excess of torque is debounced by a calibration file or the reference calibration: up, down and limit."""
-    torque = calibration_of(calibration).get("torque")
+def torque_weights_of(name, held):
+    """How the excess of torque is debounced by what a calibration has: up, down and limit."""
+    torque = held.get("torque")
     weights = [torque.get(key) if isinstance(torque, dict) else None for key in ("up", "down", "limit")]
     if not all(type(weight) is int and 0 <= weight <= MOST_NUMBER for weight in weights):
-        fail(f"{calibration or 'the reference calibration'} has no numbers torque.up, down and limit")
+        fail(f"{name or 'the reference calibration'} has no numbers torque.up, down and limit")
     return weights
 
 
-def weight_limits_of(calibration):
-    """The weight at which each watch finds something, by a calibration file or the reference calibration."""
-    tables, limits = calibration_of(calibration), {}
+def weight_limits_of(name, held=None):
+    """The weight at which each watch finds something, by a calibration; `held` is what it has, if it was read already."""
+    tables, limits = held or calibration_of(name), {}
     for watch, key in WATCHES.items():
         table = tables.get(key)
         limits[watch] = table.get("limit") if isinstance(table, dict) else None
         if type(limits[watch]) is not int or limits[watch] < 1:
-            fail(f"{calibration or 'the reference calibration'} has no number {key}.limit")
+            fail(f"{name or 'the reference calibration'} has no number {key}.limit")
     return limits

@@ -5,7 +5,8 @@ import os
 from egasim_tools.base.command_line import Form, Tool, Word, file
 from egasim_tools.base.files import read, write
 from egasim_tools.base.program import printed_by, printed_of
-from egasim_tools.base.tool import as_noted, fail
+from egasim_tools.base.records import limits_in
+from egasim_tools.base.tool import as_noted, fail, refuse_word
 from egasim_tools.calibration.number_edits import changed_numbers, parsed, with_questions
 from egasim_tools.calibration.question_coverage import cover_of, missing, told
 from egasim_tools.calibration.question_design import filled
@@ -27,7 +28,7 @@ def changes_told(name, before, after):
 
 def without_excess(name, text):
     """What is told of a calibration by which no torque is an excess."""
-    limits = dict(line.split() for line in printed_of("limits", "--cal", text=text).splitlines())
+    limits = limits_in(printed_of("limits", "--cal", text=text))
     return [f"{name}: no torque of the bench's engines is an excess (peak 0)"] if limits["peak"] == "0" else []
 
 
@@ -40,7 +41,7 @@ def cover_told(name, calibration):
 
 def put_in(values):
     if values.cover and values.fill:
-        values.refuse("--cover and --fill are two calls")
+        refuse_word("--cover and --fill are two calls")
     name = values.file
     content = read(name)
     printed_by("answers", name)  # so that whatever is wrong with the file is told by its name

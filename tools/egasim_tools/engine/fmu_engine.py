@@ -9,7 +9,7 @@ from egasim_tools.base.tool import fail
 from egasim_tools.base.units import NANOSECONDS, tick_of
 from egasim_tools.engine.fmi import VALUES
 from egasim_tools.engine.fmu_description import unpacked
-from egasim_tools.engine.variable_map import INPUTS, MOST, Joint, check_keys, exact, variable_at
+from egasim_tools.engine.variable_map import INPUTS, MOST, Joint, check_values, exact, variable_at
 from egasim_tools.measurement.traces import COLUMNS, drive_of
 
 KEYS = {"fmu": (str, "the name of a file"), "drive": (str, "the name of a file"),
@@ -110,7 +110,7 @@ def seconds_of(name, said):
 def checked(name):
     """What a file that joins an FMU holds, with its keys looked at."""
     held = toml_of(name)
-    check_keys(name, held, KEYS)
+    check_values(name, held, KEYS)
     for key in NEEDED:
         if key not in held:
             fail(f"{name}: {key} is missing")

@@ -4,14 +4,13 @@ import re
 from random import Random
 
 from egasim_tools.base.ranges import FULL, RAISE, SPEED, WORD
-from egasim_tools.base.tool import fail
 from egasim_tools.base.unit_rules import least_load
 
 # The columns of an answer that are sensed, their places in it, and the greatest number of each.
 SENSED = {"pedal": (0, FULL), "speed": (1, SPEED), "position": (5, FULL), "load1": (6, WORD), "load2": (7, WORD)}
 LAST = (FULL, SPEED, RAISE, 1, 1, FULL, WORD, WORD, WORD)  # the greatest number of each field of an answer
 TORQUE = 8
-WORD = re.compile(r"(\d{1,10}),(\d{1,5})(?:\.(\d{1,3}))?", re.A)
+SEED_AND_SIGMA = re.compile(r"(\d{1,10}),(\d{1,5})(?:\.(\d{1,3}))?", re.A)
 ANSWER = re.compile(r"\d{1,5},\d{1,5},\d{1,5},[01],[01],\d{1,5},\d{1,5},\d{1,5},\d{1,5}", re.A)
 
 
@@ -27,7 +26,7 @@ class Noise:
     six times SIGMA, and the same on each computer."""
 
     def __init__(self, word, kt):
-        match = WORD.fullmatch(word) or fail(f"--noise {word}: SEED,SIGMA is wanted, as 1,2.5")
+        match = SEED_AND_SIGMA.fullmatch(word)
         self.draws, self.thousandths = Random(int(match[1])), int(match[2] + (match[3] or "").ljust(3, "0"))
         self.kt, self.cut = kt, dict.fromkeys(SENSED, 0)
 

@@ -21,6 +21,7 @@ import subprocess  # noqa: E402
 import threading  # noqa: E402
 from egasim_tools.base.files import refuse_input, write  # noqa: E402
 from egasim_tools.base.program import printed_by  # noqa: E402
+from egasim_tools.base.records import limits_in  # noqa: E402
 from egasim_tools.base.tool import TOOL, as_noted, fail, guarded  # noqa: E402
 from egasim_tools.calibration.parameters import calibration_of  # noqa: E402
 from egasim_tools.engine.noise import Noise, numbers_in  # noqa: E402
@@ -92,7 +93,7 @@ class Relay:
 def recorded_of(calibration, campaign, run):
     """A run's fault, or None; and the tick of a test at which it is passed or has failed."""
     faults = run_of(campaign, run).get("faults", [])
-    limits = dict(line.split() for line in printed_by("limits", *(["--cal", calibration] if calibration else [])).splitlines())
+    limits = limits_in(printed_by("limits", *(["--cal", calibration] if calibration else [])))
     return faults[0] if faults else None, int(limits["test"])
 
 

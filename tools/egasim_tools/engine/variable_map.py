@@ -4,6 +4,7 @@ import math
 from fractions import Fraction
 
 from egasim_tools.base.ranges import FULL, WORD
+from egasim_tools.base.toml import check_keys
 from egasim_tools.base.tool import fail
 from egasim_tools.engine.fmi import VALUES
 
@@ -29,7 +30,7 @@ class Joint:
         self.place, self.column = place, column
         if not isinstance(told, dict) or not isinstance(told.get("name"), str):
             fail(f"{place}: a table with the variable's name is wanted: {{ name = \"..\" }}")
-        check_keys(place, told, KEYS)
+        check_values(place, told, KEYS)
         self.variable, self.is_clipped = variable_at(place, told["name"], variables), told.get("clip", False)
         self.clipped, self.first = 0, None
         self.factor = exact(f"{place}.factor", told.get("factor", 1))
@@ -74,11 +75,10 @@ class Joint:
         return within
 
 
-def check_keys(place, told, keys):
+def check_values(place, told, keys):
     """Ends if a table has a key that isn't one of these, or that holds something else than it is to."""
+    check_keys(place, told, keys)
     for key, value in told.items():
-        if key not in keys:
-            fail(f"{place}: {key} isn't one of {', '.join(keys)}")
         kind, said = keys[key]
         if not isinstance(value, kind) or kind is not bool and isinstance(value, bool):
             fail(f"{place}: {key} has to be {said}")

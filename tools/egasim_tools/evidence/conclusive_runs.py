@@ -3,6 +3,7 @@
 import re
 from dataclasses import dataclass, field
 
+from egasim_tools.base.records import rows_in
 from egasim_tools.base.unit_rules import spans_of
 from egasim_tools.base.units import Units
 
@@ -140,3 +141,8 @@ def recording_shown(text, excess=frozenset):
 def where(values):
     """The ticks, from 0 on, at which values are true."""
     return {tick for tick, value in enumerate(values) if value}
+
+
+def excess_in_signals(text):
+    """The ticks of a recording with an excess."""
+    return where(row["excess"] == "1" for row in rows_in(text))

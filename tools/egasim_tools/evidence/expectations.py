@@ -2,7 +2,7 @@
 
 from dataclasses import dataclass
 
-from egasim_tools.base.toml import toml_of, toml_text
+from egasim_tools.base.toml import check_keys, toml_of, toml_text, whole_in
 from egasim_tools.base.tool import fail
 from egasim_tools.base.units import time_of, units_of
 
@@ -37,7 +37,7 @@ class Expected:
 
     def __init__(self, name, tick):
         self.name, held = name, toml_of(name)
-        only(name, held, ("campaign", "calibration", "tick", "limits", "expect", "recording"))
+        check_keys(name, held, ("campaign", "calibration", "tick", "limits", "expect", "recording"))
         self.campaign = file_of(f"{name}: campaign", held.get("campaign"))
         self.calibration = file_of(f"{name}: calibration", held.get("calibration"))
         own = (f"{name}: tick", held["tick"]) if "tick" in held else None
@@ -56,17 +56,10 @@ class Expected:
         names = names if isinstance(names, list) else [names]
         if not names or not all(isinstance(name, str) and name for name in names):
             fail(f"{place}: {key} must be a name, or a list of names")
-        only(place, table, (key, *(KINDS if key == "run" else RECORDED)))
+        check_keys(place, table, (key, *(KINDS if key == "run" else RECORDED)))
         checks = [check for one, value in table.items() if one != key
                   for check in KINDS[one](f"{place}: {one}", self.units, one, value)]
         return Entry(place, tuple(names), tuple(checks)) if checks else fail(f"{place} expects nothing")
-
-
-def only(place, table, keys):
-    """Refuses another key in a table."""
-    for key in table:
-        if key not in keys:
-            fail(f"{place}: there is no key {key}; the keys are {', '.join(keys)}")
 
 
 def tables_of(name, held, key):
@@ -83,12 +76,6 @@ def file_of(place, value):
     return value
 
 
-def whole(place, value, most):
-    if type(value) is not int or not 0 <= value <= most:
-        fail(f"{place} must be a whole number from 0 to {most}")
-    return value
-
-
 def ticks_of(place, units, value, is_least=False):
     """The ticks of a time, which is a number of them or a text such as "30 ms". What may be reached at most is rounded down
     to whole ticks, what at least up."""
@@ -99,21 +86,19 @@ def ticks_of(place, units, value, is_least=False):
         if not units:
             fail(f'{place} is a time, and the file has no tick = "10 ms"')
         value = -(-time // units.tick) if is_least else time // units.tick
-    return whole(place, value, MOST_TICKS)
+    return whole_in(place, value, MOST_TICKS)
 
 
 def limits_of(place, units, table):
     """What is expected of lines of `limits`. A number is the greatest that a line may have."""
-    if not isinstance(table, dict):
-        fail(f"{place} must be a table")
-    only(place, table, LIMITS)
+    check_keys(place, table, LIMITS)
     for line, value in table.items():
         bounds = value if isinstance(value, dict) else {"most": value}
-        only(f"{place}: {line}", bounds, ("least", "most"))
+        check_keys(f"{place}: {line}", bounds, ("least", "most"))
         for bound, said in bounds.items():
             key = f"{line}.{bound}" if bounds is value else line
             where = f"{place}: {key}"
-            number = ticks_of(where, units, said, bound == "least") if line in TIMES else whole(where, said, MOST_NUMBER)
+            number = ticks_of(where, units, said, bound == "least") if line in TIMES else whole_in(where, said, MOST_NUMBER)
             yield Check(key, toml_text(said), (line, bound, number))
 
 
@@ -125,7 +110,7 @@ def truth(place, _, key, value):
 
 
 def per_cent(place, _, key, value):
-    yield Check(key, toml_text(value), whole(place, value, 100))
+    yield Check(key, toml_text(value), whole_in(place, value, 100))
 
 
 def time(place, units, key, value):
@@ -144,7 +129,7 @@ def latest(place, units, key, value):
     """How late the stages are off for good, after the fault's onset or the confirmed excess."""
     if not isinstance(value, dict) or not value:
         fail(f"{place} must say latest.after_fault or latest.after_excess")
-    only(place, value, ("after_fault", "after_excess"))
+    check_keys(place, value, ("after_fault", "after_excess"))
     for event, ticks in value.items():
         yield Check(f"{key}.{event}", toml_text(ticks), ticks_of(f"{place}.{event}", units, ticks))
 

@@ -10,7 +10,8 @@ from egasim_tools.base.inputs import Inputs
 from egasim_tools.base.program import program
 from egasim_tools.base.tool import TOOL, as_noted
 from egasim_tools.evidence.expectations import Expected
-from egasim_tools.evidence.judgement import inputs_of, verdicts
+from egasim_tools.evidence.expected_runs import Asking, inputs_of
+from egasim_tools.evidence.judgement import verdicts
 from egasim_tools.evidence.kept_calls import calls_kept
 from egasim_tools.evidence.tap_junit import junit, tap
 
@@ -41,7 +42,7 @@ def judged(values):
         inputs = Inputs([program(), name])
         expected = Expected(name, values.tick)
         inputs.add_sums(inputs_of(expected))
-        told = list(dict.fromkeys(verdicts(expected, values.strict)))
+        told = list(dict.fromkeys(verdicts(expected, Asking(expected), values.strict)))
         inputs.refuse_changes()
         said = kept and kept.sealed(inputs_of(expected))
         if output:

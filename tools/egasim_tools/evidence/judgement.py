@@ -1,20 +1,11 @@
 """Whether the runs of a campaign, recordings and a calibration are as a file of expectations says. All numbers are those
 that the program prints."""
 
-import csv
 import fnmatch
-import functools
-import io
 from dataclasses import dataclass
 
-from egasim_tools.base.program import printed_by
-from egasim_tools.base.records import drive_of, record_of
-from egasim_tools.base.tool import fail
-from egasim_tools.base.units import beside
-from egasim_tools.calibration.parameters import threshold_of, weight_limits_of
-from egasim_tools.evidence.conclusive_runs import Shown, cut_said, recording_shown, where
-from egasim_tools.evidence.run_results import excess_of, unsettled
-from egasim_tools.study.campaigns import files_of_campaign, runs_of_campaign
+from egasim_tools.evidence.conclusive_runs import cut_said
+from egasim_tools.evidence.run_results import unsettled
 
 
 @dataclass(frozen=True)
@@ -26,26 +17,15 @@ class Verdict:
     words: str
 
 
-def verdicts(expected, is_strict):
-    """The verdict on each line of a file of expectations, and on each run that no line names."""
-    calibration = ["--cal", expected.calibration] if expected.calibration else []
-    limits = functools.cache(lambda: dict(line.split() for line in printed_by("limits", *calibration).splitlines()))
-    yield from limit_verdicts(expected, limits)
+def verdicts(expected, asking, is_strict):
+    """The verdict on each line of a file of expectations, and on each run that no line names, by what is asked for them."""
+    yield from limit_verdicts(expected, asking.limits)
     if expected.campaign:
-        yield from run_verdicts(expected, shown_runs(expected, calibration, limits), is_strict)
+        yield from run_verdicts(expected, asking.runs(), is_strict)
     for entry in expected.recordings:
         for name in entry.names:
-            excess = functools.cache(lambda name=name: excess_in_signals(printed_by("signals", *calibration, readings=name)))
-            shown = recording_shown(printed_by("replay", *calibration, readings=name), excess)
+            shown = asking.recording(name)
             yield from (verdict(name, check, shown, expected.units) for check in entry.checks)
-
-
-def inputs_of(expected):
-    """The files that verdicts on these expectations are drawn from."""
-    runs = files_of_campaign(expected.campaign) if expected.campaign else []
-    units = beside(expected.calibration) if expected.calibration else None
-    recordings = (name for entry in expected.recordings for name in entry.names)
-    return [name for name in [expected.name, expected.calibration, *runs, units, *recordings] if name]
 
 
 def limit_verdicts(expected, limits):
@@ -71,40 +51,6 @@ def run_verdicts(expected, runs, is_strict):
     for run in runs:
         if run not in named:
             yield Verdict(run, "is named", False if is_strict else None, "no line names it")
-
-
-def shown_runs(expected, calibration, limits):
-    """What each run of the campaign shows, by its name."""
-    rows = table_of("table", *calibration, expected.campaign)
-    needs_room = any(check.key == "room" for entry in expected.runs for check in entry.checks)
-    margins = {row["run"]: row for row in table_of("margins", *calibration, expected.campaign)} if needs_room else {}
-    most = weight_limits_of(expected.calibration) if needs_room else {}
-    runs, drives, shown = runs_of_campaign(expected.campaign), {}, {}
-    if list(runs) != [row["run"] for row in rows] or needs_room and list(margins) != list(runs):
-        fail(f"{expected.campaign} changed meanwhile")
-    for row in rows:
-        name, trace = row["run"], runs[row["run"]]["trace"]
-        drives[trace] = drives.get(trace) or drive_of(trace)
-        weights = {watch: (int(margins[name][watch]), limit) for watch, limit in most.items()}
-        excess = functools.cache(lambda name=name: excess_in_run(expected, calibration, name))
-        test = int(limits()["test"]) if drives[trace][1] else 0
-        shown[name] = Shown(row, weights, *drives[trace], excess, run=runs[name], test=test)
-    return shown
-
-
-def excess_in_run(expected, calibration, name):
-    """The ticks of a run with a true excess."""
-    record = record_of(name, io.StringIO(printed_by("record", *calibration, expected.campaign, name)))
-    return where(excess_of(record, threshold_of(expected.calibration)))
-
-
-def excess_in_signals(text):
-    """The ticks of a recording with an excess."""
-    return where(row["excess"] == "1" for row in csv.DictReader(io.StringIO(text)))
-
-
-def table_of(*words):
-    return list(csv.DictReader(io.StringIO(printed_by(*words))))
 
 
 def verdict(subject, check, shown, units):

@@ -5,7 +5,7 @@ import os
 from egasim_tools.base.command_line import NAME, Form, Tool, Word
 from egasim_tools.base.files import TOP
 from egasim_tools.base.program import program
-from egasim_tools.base.tool import fail
+from egasim_tools.base.tool import refuse_word
 from egasim_tools.evidence.kept_calls import PROGRAM, again, keep
 
 INSTALLED = f"/lib/{PROGRAM}/{PROGRAM}"  # the program below the prefix of an installation, whose launcher is in bin/
@@ -19,7 +19,7 @@ def is_called(word):
     if ways[0].endswith(INSTALLED):
         ways.append(f"{ways[0].removesuffix(INSTALLED)}/bin/{PROGRAM}")
     if not any(os.path.exists(path) and os.path.exists(word) and os.path.samefile(path, word) for path in ways):
-        fail(f"{word} isn't the program that would be run, {ways[0]}")
+        refuse_word(f"{word} isn't the program that would be run, {ways[0]}")
     return True
 
 
@@ -30,7 +30,7 @@ def kept(values):
     elif values.folder and not values.again and len(words) > 1 and is_called(words[0]):
         keep(values.folder, words[1:])
     else:
-        values.refuse("FOLDER -- egasim COMMAND .. is wanted, or --again FOLDER")
+        refuse_word("FOLDER -- egasim COMMAND .. is wanted, or --again FOLDER")
 
 
 KEEP = Tool(

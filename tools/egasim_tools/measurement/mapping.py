@@ -4,7 +4,7 @@ from fractions import Fraction
 from types import SimpleNamespace
 
 from egasim_tools.base.ranges import FULL, RAISE, SPEED, WORD
-from egasim_tools.base.toml import toml_of
+from egasim_tools.base.toml import check_keys, toml_of, whole_in
 from egasim_tools.base.tool import fail
 from egasim_tools.base.units import NANOSECONDS, tick_of, time_of
 from egasim_tools.measurement.csv_export import DECIMALS, DELIMITERS
@@ -28,7 +28,7 @@ OF_CHANNEL = ("channel", "time", "factor", "offset", "round", "age", "texts")
 def mapping_of(name):
     """The mapping of a file, checked: what is made of which channels, tick, ages, and what is said of file and times."""
     held = toml_of(name)
-    known(name, "the mapping", held, TOP)
+    check_keys(name, held, TOP)
     makes = one_of(name, "makes", held.get("makes"), tuple(COLUMNS))
     mapping = SimpleNamespace(
         name=name, makes=makes, tick=tick_of(f"{name}: tick", held.get("tick")), age=age_of(name, "age", held.get("age")),
@@ -39,12 +39,6 @@ def mapping_of(name):
     cut = table_of(name, held, "cut")
     mapping.cut = cut_of(mapping, cut) if cut else None
     return mapping
-
-
-def known(name, place, table, keys):
-    for key in table:
-        if key not in keys:
-            fail(f"{name}: {place} has no key {key}; its keys are {', '.join(keys)}")
 
 
 def table_of(name, held, key):
@@ -75,7 +69,7 @@ def number_of(name, place, value):
 
 def file_of(name, table):
     """How the measurement is written; None stands for what is to be found."""
-    known(name, "file", table, ("delimiter", "decimal", "encoding", "empty"))
+    check_keys(f"{name}: file", table, ("delimiter", "decimal", "encoding", "empty"))
     empty = table.get("empty", [])
     if not isinstance(empty, list) or not all(isinstance(text, str) for text in empty):
         fail(f"{name}: file.empty must be a list of texts")
@@ -87,7 +81,7 @@ def file_of(name, table):
 def times_of(name, table):
     """The column of time, its unit in nanoseconds, the times of the first and the last tick, and what becomes of times
     that fall."""
-    known(name, "time", table, ("channel", "unit", "from", "to", "falling"))
+    check_keys(f"{name}: time", table, ("channel", "unit", "from", "to", "falling"))
     said = one_of(name, "time.unit", table.get("unit", "s"), tuple(NANOSECONDS))
     unit = NANOSECONDS[said]
     ends = {key: number_of(name, f"time.{key}", table[key]) * unit if key in table else None for key in ("from", "to")}
@@ -112,7 +106,7 @@ def channel_of(name, place, value):
 def sources_of(mapping, table):
     """Where each column of what is made comes from, in the order of its header."""
     name, (needed, others) = mapping.name, COLUMNS[mapping.makes]
-    known(name, f"keys of a {mapping.makes}", table, needed + others)
+    check_keys(f"{name}: keys of a {mapping.makes}", table, needed + others)
     for key in needed:
         if key not in table:
             fail(f"{name}: keys has no {key}, which a {mapping.makes} needs; {key} = {advised(key, table)}")
@@ -146,21 +140,17 @@ def source_of(mapping, key, table):
     most = MOST[key] if mapping.makes == "trace" else WORD
     source = SimpleNamespace(key=key, most=most, of=table.get("of"), value=None, complement=None, channel=None, is_edge=False)
     if "value" in table:
-        known(name, place, table, ("value",))
-        source.value = whole_of(name, f"{place}.value", table["value"], most)
+        check_keys(f"{name}: {place}", table, ("value",))
+        source.value = whole_in(f"{name}: {place}.value", table["value"], most)
     elif "of" in table:
-        known(name, place, table, ("of", "complement"))
+        check_keys(f"{name}: {place}", table, ("of", "complement"))
         if "complement" in table:
-            source.complement = whole_of(name, f"{place}.complement", table["complement"], WORD)
+            source.complement = whole_in(f"{name}: {place}.complement", table["complement"], WORD)
     else:
-        known(name, place, table, (*OF_CHANNEL, "edge") if key == "reset" else OF_CHANNEL)
+        check_keys(f"{name}: {place}", table, (*OF_CHANNEL, "edge") if key == "reset" else OF_CHANNEL)
         source.is_edge = truth_of(name, f"{place}.edge", table.get("edge", False))
         add_channel(mapping, place, table, source)
     return source
-
-
-def whole_of(name, place, value, most):
-    return value if type(value) is int and 0 <= value <= most else fail(f"{name}: {place} must be a whole number, 0 to {most}")
 
 
 def truth_of(name, place, value):
@@ -184,7 +174,7 @@ def add_channel(mapping, place, table, source):
 
 def cut_of(mapping, table):
     """Where a long trace may be cut: before a tick at which this channel is at most so much, in its own unit."""
-    known(mapping.name, "cut", table, ("channel", "time", "age", "texts", "most"))
+    check_keys(f"{mapping.name}: cut", table, ("channel", "time", "age", "texts", "most"))
     if "channel" not in table or "most" not in table:
         fail(f"{mapping.name}: cut must have a channel, and the most that it may be where a trace is cut")
     source = SimpleNamespace(key="cut", most=None, of=None, value=None, complement=None, is_edge=False)
@@ -195,7 +185,7 @@ def cut_of(mapping, table):
 
 def run_of(name, table):
     """What a run of the campaign has beside its name and its trace; None if no campaign is asked for."""
-    known(name, "run", table, ("image", "engine", "slices", "sound"))
+    check_keys(f"{name}: run", table, ("image", "engine", "slices", "sound"))
     if table and not isinstance(table.get("image"), str):
         fail(f"{name}: run.image must be the name of an image")
     is_sound = truth_of(name, "run.sound", table.get("sound", False))

@@ -5,7 +5,7 @@ import re
 
 from egasim_tools.base.command_line import Form, Tool, Word, file
 from egasim_tools.base.files import refuse_input, write
-from egasim_tools.base.tool import as_noted, fail
+from egasim_tools.base.tool import as_noted, refuse_word
 from egasim_tools.measurement.conversion import Drive, campaigns_of
 from egasim_tools.measurement.mapping import mapping_of
 
@@ -13,7 +13,7 @@ from egasim_tools.measurement.mapping import mapping_of
 def stem_of(out, inputs):
     """The name of what is written, without its ending."""
     if not out.endswith(".csv") or os.path.basename(out) in (".csv", "") or out.startswith("-"):
-        fail(f"{out} isn't the name of what is to be written, NAME.csv")
+        refuse_word(f"{out} isn't the name of what is to be written, NAME.csv")
     refuse_input(out, inputs)
     return out.removesuffix(".csv")
 
@@ -44,7 +44,7 @@ def put(drive, stem, names, inputs):
 def made(values):
     inputs = [values.mapping, values.measurement]
     if values.check == bool(values.out):
-        values.refuse("OUT.csv or --check is needed, and not both")
+        refuse_word("OUT.csv or --check is needed, and not both")
     mapping = mapping_of(values.mapping)
     stem = stem_of(values.out, inputs) if values.out else None
     drive = Drive(mapping, values.measurement)

@@ -1,6 +1,5 @@
 """The calls of the program that a page is made of, and the checksums of all that goes into the page."""
 
-import csv
 import datetime
 import io
 import os
@@ -11,19 +10,18 @@ from egasim_tools.base.files import TOOLS, TOP, read, sum_of, text_in
 from egasim_tools.base.inputs import Inputs
 from egasim_tools.base.program import asked_version, printed_by, program, version_lines
 from egasim_tools.base.ranges import CAMPAIGN_TICKS, RUNS
-from egasim_tools.base.records import drive_of, record_of
+from egasim_tools.base.records import drive_of, limits_in, record_of, rows_in
 from egasim_tools.base.toml import toml_in
 from egasim_tools.base.tool import fail
 from egasim_tools.base.unit_rules import answer_of, spans_of
 from egasim_tools.base.units import beside, units_of
-from egasim_tools.calibration.parameters import calibration_of, has_ramp, threshold_of, weight_limits_of
+from egasim_tools.calibration.parameters import calibration_of, has_ramp, threshold_of, torque_weights_of, weight_limits_of
 from egasim_tools.calibration.question_coverage import cover_of, missing
-from egasim_tools.evidence.conclusive_runs import Shown, recording_shown, where
+from egasim_tools.evidence.conclusive_runs import Shown, excess_in_signals, recording_shown, where
 from egasim_tools.evidence.detection import taken_by_class
 from egasim_tools.evidence.run_results import excess_of
-from egasim_tools.report.program_results import Played, Swept, groups_of, sounds_in
+from egasim_tools.report.program_results import MOST_SWEEPS, Played, Swept, drawn_runs, sounds_in
 
-MOST_SWEEPS = 20
 DOCUMENTS = ("SAFETY.md", "EVIDENCE.md", "PROVED.md", "FORMATS.md")  # of which parts stand in a page
 
 
@@ -39,21 +37,24 @@ class Asking(Inputs):
         called = program()  # which builds it, if need be, before --version looks for it
         asked = asked_version()
         self.add_files(called)
-        limits, coverage = dict(line.split() for line in self.call("limits").splitlines()), self.table("coverage")
+        held = calibration_of(self.calibration)
+        limits, coverage = limits_in(self.call("limits")), self.table("coverage")
         rows, margins = self.table("table", self.campaign), self.table("margins", self.campaign)
         text = text_in(self.campaign, read(self.campaign))
         runs = {run["name"]: run for run in toml_in(self.campaign, text)["run"]}
         self.add_sums(sorted({run[key] for run in runs.values() for key in ("trace", "image")}))
-        records = {row["run"]: self.record(row["run"]) for row in rows}
-        resets = {name: drive_of(run["trace"])[1] for name, run in runs.items()}
+        drives = {trace: drive_of(trace) for trace in {run["trace"] for run in runs.values()}}
+        ticks, resets = ({name: drives[run["trace"]][place] for name, run in runs.items()} for place in (0, 1))
         played = Played(
             self.campaign, self.calibration, units_of(tick, [self.calibration]),
             datetime.datetime.now(datetime.timezone.utc).strftime("%Y-%m-%d %H:%M UTC"), version_lines(asked=asked), limits, coverage,
-            rows, margins, runs, declared(self.campaign, runs, [*sound, *sounds_in(text)]), records, resets,
-            threshold_of(self.calibration), has_ramp(self.calibration), weight_limits_of(self.calibration),
-            calibration_of(self.calibration)["pairs"], blind_for(self.calibration),
-            taken_until_found(calibration_of(self.calibration), limits, coverage, rows, records, resets),
+            rows, margins, runs, declared(self.campaign, runs, [*sound, *sounds_in(text)]), ticks, resets,
+            threshold_of(self.calibration, held), has_ramp(held), weight_limits_of(self.calibration, held),
+            torque_weights_of(self.calibration, held), held["pairs"], blind_for(held),
+            taken_until_found(held, limits, coverage, rows, ticks, resets),
             {name: document(name) for name in DOCUMENTS}, commands=self.commands, sums=self.sums)
+        played.drawn = drawn_runs(played)
+        played.records = {name: self.record(name) for name in runs if name in {*played.drawn, *played.sound}}
         self.add_sweeps(played, sweeps_sound)
         played.drives = {name: shown(played, name) for name in played.sound}
         return played
@@ -73,7 +74,7 @@ class Asking(Inputs):
         swept = [runs for runs, is_left_out in groups if not is_left_out]
         played.left = max(0, len(swept) - MOST_SWEEPS)
         for runs in swept[:MOST_SWEEPS]:
-            step = step_of(len(played.records[runs[0]]["on"]), len({row["class"] for row in played.coverage}))
+            step = step_of(played.ticks[runs[0]], len({row["class"] for row in played.coverage}))
             played.sweeps.append(Swept(runs, step, self.call("sweep", self.campaign, runs[0], str(step)).splitlines()))
 
     def add_others(self, played, coupled, recordings):
@@ -93,7 +94,7 @@ class Asking(Inputs):
         found = recording_shown(text)
         if found.row["cut"] or found.row["stretch"] == "0":
             return frozenset
-        ticks = where(row["excess"] == "1" for row in csv.DictReader(io.StringIO(self.call("signals", given=name))))
+        ticks = excess_in_signals(self.call("signals", given=name))
         return lambda: ticks
 
     def files(self):
@@ -109,7 +110,7 @@ class Asking(Inputs):
         return text
 
     def table(self, *words):
-        return list(csv.DictReader(io.StringIO(self.call(*words))))
+        return rows_in(self.call(*words))
 
     def record(self, name):
         return record_of(name, io.StringIO(self.call("record", self.campaign, name)))
@@ -125,19 +126,18 @@ def declared(campaign, runs, names):
     return [name for name in runs if name in names]
 
 
-def blind_for(name):
+def blind_for(calibration):
     """What the questions of the calibration don't exercise."""
-    calibration = calibration_of(name)
     for number, question in enumerate(calibration["question"]):
         if answer_of(calibration, question) != question["answer"]:
             fail(f"answer {number} isn't what this tool works out")
     return list(missing(cover_of(calibration)))
 
 
-def taken_until_found(calibration, limits, coverage, rows, records, resets):
+def taken_until_found(calibration, limits, coverage, rows, ticks, resets):
     """How long the runs of each class of fault take until something is found."""
     answers, test = calibration["answers"], int(limits["test"])
-    spans = {name: list(spans_of(resets[name], len(record["on"]), test)) for name, record in records.items()}
+    spans = {name: list(spans_of(resets[name], ticks[name], test)) for name in ticks}
     return taken_by_class(rows, coverage, (answers["first"], answers["last"]), spans)
 
 

@@ -26,9 +26,7 @@ def drawn(values):
 
 DRAW = Tool(
     "draw", "draws any record as an SVG",
-    (Form("draws the record on standard input: torque, permitted torque without and with the threshold, excess, what is found, "
-          "the stages", drawn,
+    (Form("draws the record on standard input", drawn,
           (Word("--cal", "the calibration whose threshold is drawn; else the reference calibration", file("toml"), "NAME"),
            Word("--from", "the first tick that is drawn", TICK, "TICK"), Word("--to", "the last tick that is drawn", TICK, "TICK"),
-           TICK_LENGTH)),),
-    "It needs Python alone. egasim plot makes a PNG by gnuplot, and egasim report a page with such pictures.", needs_words=False)
+           TICK_LENGTH)),), needs_words=False)

@@ -1,30 +1,44 @@
 """The picture of margins: a panel for each watch that was fed with something bad."""
 
 import csv
+from dataclasses import dataclass
 
+from egasim_tools.base.records import rows_looked_at
 from egasim_tools.base.tool import fail
 from egasim_tools.calibration.parameters import WATCHES, weight_limits_of
 from egasim_tools.report.gnuplot import DARK, INK, PIXELS, TOP_OF_FOUND, block, looks_of, named_places, quoted
 
+ALONE = "margins of one campaign make a picture"  # is told of several files
 MOST_NAMES = 24  # of runs that can stand below their weights
 TITLE, PANEL, HEAD = 34, 165, 55  # how high the title is, and a panel, and what stands above its frame
+
+
+@dataclass
+class Margins:
+    name: str
+    runs: list
+    weights: dict  # of each watch that was fed with something bad, in per cent of its limit
+
+
+def read(name, lines, calibration):
+    """What a picture shows of such a file, by a calibration or the reference calibration."""
+    runs, weights = weights_of(name, lines, weight_limits_of(calibration))
+    if not weights:
+        fail(f"{name} has no weight above 0: nothing bad was seen in a run")
+    return Margins(name, runs, weights)
 
 
 def weights_of(name, lines, limits):
     """The names of the runs, and of each watch that was fed with something bad its weights in per cent of the limit."""
     names, weights = [], {watch: [] for watch in WATCHES}
     rows = csv.DictReader(lines)
-    try:
+    with rows_looked_at(f"{name} has no margins", rows):
         for row in rows:
             names.append(row["run"])
             for watch, limit in limits.items():
                 if int(row[watch]) > limit:
                     fail(f"{name} is by another calibration: {watch} has {row[watch]} of {limit}")
                 weights[watch].append(100 * int(row[watch]) / limit)
-    except (KeyError, TypeError, ValueError):
-        fail(f"{name} has no margins: line {rows.line_num} has no such row")
-    except csv.Error:
-        fail(f"{name} has no margins: line {rows.line_num + 1} isn't one of CSV")
     return names, {watch: shares for watch, shares in weights.items() if any(shares)}
 
 
@@ -42,16 +56,12 @@ def axis_of(names):
 
 
 def picture(files, *_, units=None):
-    """Height and script of the picture of (name, lines, calibration) of the one file."""
-    if len(files) > 1:
-        fail("margins of one campaign make a picture")
-    [(name, lines, calibration)] = files
-    names, weights = weights_of(name, lines, weight_limits_of(calibration))
-    if not weights:
-        fail(f"{name} has no weight above 0: nothing bad was seen in a run")
+    """Height and script of the picture of the one file."""
+    [shown] = files
+    names, weights = shown.runs, shown.weights
     axis, below = axis_of(names)
     height = PANEL * len(weights) + TITLE + below
-    title = f"{name}: greatest weights, in per cent of the limits"
+    title = f"{shown.name}: greatest weights, in per cent of the limits"
     script = [f"set multiplot title {quoted(title)} noenhanced\nset xrange [0.5:{len(names) + 0.5}]\n",
               f"set yrange [0:{TOP_OF_FOUND}]\nset ytics nomirror 0,50,100\n",
               f"set xtics nomirror format ''{' 1' * (len(names) <= MOST_NAMES)}\n",

@@ -1,12 +1,27 @@
 """The picture of records, one above another."""
 
+from dataclasses import dataclass
+
 from egasim_tools.base.records import part_of, record_of
 from egasim_tools.base.units import Units
 from egasim_tools.calibration.parameters import threshold_of
 from egasim_tools.report.gnuplot import GREY, INK, MOST, PERMITTED, TORQUE, curves, looks_of, quoted, tick_axis, torque_scale
 
 SIGNS = ("stages on", "path 2 conducts", "path 1 conducts")
+ALONE = None  # one picture has any number of files
 HEIGHT = 380  # of a panel
+
+
+@dataclass
+class Record:
+    name: str
+    record: dict  # the columns, by their names
+    threshold: int
+
+
+def read(name, lines, calibration):
+    """What a picture shows of such a file, by a calibration or the reference calibration."""
+    return Record(name, record_of(name, lines), threshold_of(calibration))
 
 
 def highest_of(records, thresholds):
@@ -30,10 +45,10 @@ def panel(place, name, record, threshold, units):
 
 
 def picture(files, first, last, units=Units()):
-    """Height and script of the picture of (name, lines, calibration) of each file, from the first to the last tick."""
-    records = [part_of(name, record_of(name, lines), first, last) for name, lines, _ in files]
-    thresholds = [threshold_of(calibration) for *_, calibration in files]
-    panels = [panel(place, files[place][0], record, thresholds[place], units) for place, record in enumerate(records)]
+    """Height and script of the picture of all files, from the first to the last tick."""
+    records = [part_of(shown.name, shown.record, first, last) for shown in files]
+    thresholds = [shown.threshold for shown in files]
+    panels = [panel(place, files[place].name, record, thresholds[place], units) for place, record in enumerate(records)]
     return HEIGHT * len(files), ["set key outside center bottom horizontal maxcols 2\nset xlabel 'tick'\n",
                                  *torque_scale(highest_of(records, thresholds), SIGNS, units),
                                  f"set multiplot layout {len(files)},1\n", *panels, "unset multiplot\n"]

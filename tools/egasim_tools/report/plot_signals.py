@@ -1,8 +1,9 @@
 """The picture of signals: level 2's five, up to a trip, and below them the weights."""
 
 import csv
+from dataclasses import dataclass
 
-from egasim_tools.base.records import part_of
+from egasim_tools.base.records import part_of, rows_looked_at
 from egasim_tools.base.tool import fail
 from egasim_tools.base.units import Units
 from egasim_tools.calibration.parameters import MOST_NUMBER, WATCHES, threshold_of, weight_limits_of
@@ -12,18 +13,28 @@ from egasim_tools.report.gnuplot import (DARK, GREY, INK, MIDDLE, MOST, PERMITTE
 DEBOUNCED = [watch for watch in WATCHES if watch != "answers"]  # those of level 2
 SIGNALS = ["tick", "used", "permitted", "actual", "excess", "pairs", *DEBOUNCED]
 LOOKS = dict(zip(DEBOUNCED, [(INK, 2), (INK, 2, "(2,3)"), ("#999999", 2), (MIDDLE, 2), (DARK, 2)]))  # of the weights
+ALONE = "signals of one measurement make a picture"  # is told of several files
 HEIGHT = 760
+
+
+@dataclass
+class Signals:
+    name: str
+    signals: dict  # the columns, by their names
+    limits: dict  # of the weights
+    threshold: int
+
+
+def read(name, lines, calibration):
+    """What a picture shows of such a file, by a calibration or the reference calibration."""
+    return Signals(name, signals_of(name, lines), weight_limits_of(calibration), threshold_of(calibration))
 
 
 def signals_of(name, lines):
     """The columns of the text of `signals`, by their names: numbers, and what is found."""
     rows = csv.DictReader(lines)
-    try:
+    with rows_looked_at(f"{name} has no signals", rows):
         ticks = [[*(int(row[column]) for column in SIGNALS), row["found"].strip()] for row in rows]
-    except (AttributeError, KeyError, TypeError, ValueError):
-        fail(f"{name} has no signals: line {rows.line_num} has no such row")
-    except csv.Error:
-        fail(f"{name} has no signals: line {rows.line_num + 1} isn't one of CSV")
     if not ticks:
         fail(f"{name} has no tick below its header")
     for place, tick in enumerate(ticks, ticks[0][0]):
@@ -87,17 +98,15 @@ def panel_of_weights(signals, shares):
 
 
 def picture(files, first, last, units=Units()):
-    """Height and script of the picture of (name, lines, calibration) of the one file, from the first to the last tick."""
-    if len(files) > 1:
-        fail("signals of one measurement make a picture")
-    [(name, lines, calibration)] = files
-    whole = signals_of(name, lines)
+    """Height and script of the picture of the one file, from the first to the last tick."""
+    [shown] = files
+    name, whole = shown.name, shown.signals
     every, signals = part_of(name, whole, first, last), part_of(f"{name}, up to its trip,", up_to_trip(whole), first, last)
     until = f", up to the trip at {units.ticks(signals['tick'][-1])}" if is_trip(signals["found"][-1]) else ""
-    shares = shares_of(name, signals, weight_limits_of(calibration))
+    shares = shares_of(name, signals, shown.limits)
     return HEIGHT, [
         "set key outside center bottom horizontal maxcols 2\n", tick_axis("x", "tick", every["tick"][0], every["tick"][-1] + 1, units),
         f"set xrange [{every['tick'][0]}:{every['tick'][-1] + 1}]\nset lmargin 9\nset rmargin 16\n",
         f"set multiplot layout 2,1\nset title {quoted(name + until)} noenhanced offset 0,1.5\nset tmargin 4\n",
-        *marks(signals, every["tick"], units), *panel_of_signals(signals, threshold_of(calibration), units),
+        *marks(signals, every["tick"], units), *panel_of_signals(signals, shown.threshold, units),
         *panel_of_weights(signals, shares), "unset multiplot\n"]

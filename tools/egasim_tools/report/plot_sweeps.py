@@ -1,6 +1,7 @@
 """The picture of sweeps: the greatest reaction of each class of fault, beside R."""
 
 import re
+from dataclasses import dataclass
 
 from egasim_tools.base.program import reaction_bound
 from egasim_tools.base.tool import fail
@@ -10,7 +11,21 @@ from egasim_tools.report.gnuplot import INK, block, looks_of, named_places, quot
 SWEPT = re.compile(r"([a-z0-9-]+): runs \d+; .*reaction (\d+|none)")
 BARS = ["#1f4e79", "#f2b66d", "#5f9e6e", "#d9d9d9", "#8e44ad", "#333333"]  # colours that differ in grey too
 LINES = ["#1f4e79", "#b35806", "#1b7837", "#762a83", "#c0392b", "#333333"]
+ALONE = None  # one picture has any number of files
 HEIGHT, ROW = 400, 22  # of the bars, and of a line of the legend
+
+
+@dataclass
+class Sweep:
+    name: str
+    calibration: str | None
+    reactions: dict  # the greatest of each class, or None
+    bound: int  # R
+
+
+def read(name, lines, calibration):
+    """What a picture shows of such a file, by a calibration or the reference calibration."""
+    return Sweep(name, calibration, sweep_of(name, lines), reaction_bound(calibration))
 
 
 def sweep_of(name, lines):
@@ -25,33 +40,32 @@ def by_which(calibration):
     return f"by {calibration or 'the reference calibration'}"
 
 
-def bars(files, sweeps):
+def bars(sweeps):
     """The data of the bars, how they are drawn, and their numbers. No line of a sweep tells by which calibration it is."""
-    data, drawn, numbers, width = [], [], [], 0.92 / len(files)
-    for place, ((name, _, calibration), sweep) in enumerate(zip(files, sweeps)):
-        shift = (place - (len(files) - 1) / 2) * width
+    data, drawn, numbers, width = [], [], [], 0.92 / len(sweeps)
+    for place, sweep in enumerate(sweeps):
+        shift = (place - (len(sweeps) - 1) / 2) * width
         data.append(block(f"sweep{place}", [(at + shift, reaction or 0, width, "none" if reaction is None else reaction)
-                                            for at, reaction in enumerate(sweep.values())]))
+                                            for at, reaction in enumerate(sweep.reactions.values())]))
         drawn.append(f"$sweep{place} using 1:2:3 with boxes lc rgb '{BARS[place % len(BARS)]}' "
-                     f"title {quoted(f'{name} {by_which(calibration)}')}")
+                     f"title {quoted(f'{sweep.name} {by_which(sweep.calibration)}')}")
         numbers.append(f"$sweep{place} using 1:2:4 with labels left rotate by 90 offset 0,0.4 boxed notitle")
     return data, drawn, numbers
 
 
-def picture(files, *_, units=Units()):
-    """Height and script of the picture of (name, lines, calibration) of each file."""
-    sweeps = [sweep_of(name, lines) for name, lines, _ in files]
-    classes = list(sweeps[0])
-    if any(list(sweep) != classes for sweep in sweeps):
+def picture(sweeps, *_, units=Units()):
+    """Height and script of the picture of all files."""
+    classes = list(sweeps[0].reactions)
+    if any(list(sweep.reactions) != classes for sweep in sweeps):
         fail("the sweeps have other classes than the first one")
-    bounds = {calibration: reaction_bound(calibration) for *_, calibration in files}
-    highest = max([1, *bounds.values(), *(reaction or 0 for sweep in sweeps for reaction in sweep.values())])
-    data, drawn, numbers = bars(files, sweeps)
+    bounds = {sweep.calibration: sweep.bound for sweep in sweeps}
+    highest = max([1, *bounds.values(), *(reaction or 0 for sweep in sweeps for reaction in sweep.reactions.values())])
+    data, drawn, numbers = bars(sweeps)
     for place, (calibration, bound) in enumerate(bounds.items()):
         drawn.append(f"{bound} with lines "
                      + looks_of(LINES[place % len(LINES)], 2, 2 + 2 * (place % 2), f"R {by_which(calibration)}, {units.ticks(bound)}"))
     names = [f"{kind}, no R" if kind == "lapse" else kind for kind in classes]
-    return HEIGHT + ROW * (len(files) + len(bounds)), [
+    return HEIGHT + ROW * (len(sweeps) + len(bounds)), [
         "set style textbox opaque margins 0.3,0.3 noborder\n",
         f"set boxwidth 0.94 relative\nset style fill solid border lc rgb '{INK}'\nset grid noxtics\n",
         "set key outside center bottom vertical maxcols 1\n", tick_axis("y", "greatest reaction, ticks", 0, round(1.2 * highest), units),

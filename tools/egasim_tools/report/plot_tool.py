@@ -5,7 +5,7 @@ import csv
 from egasim_tools.base.command_line import NAME, TICK, TICK_LENGTH, Form, Tool, Word, file
 from egasim_tools.base.files import refuse_input, text_of
 from egasim_tools.base.records import check_end
-from egasim_tools.base.tool import fail
+from egasim_tools.base.tool import fail, refuse_word
 from egasim_tools.base.units import units_of
 from egasim_tools.calibration.parameters import WATCHES
 from egasim_tools.report import plot_margins, plot_records, plot_signals, plot_sweeps, plot_table
@@ -32,7 +32,14 @@ def kind_of(name, lines):
                 None) or fail(f"{name} is no record, sweep, table, margins or signals")
 
 
-def files_of(words, values):
+def shown_of(kind, files):
+    """What a picture of this kind shows of (name, lines, calibration) of each file."""
+    if len(files) > 1 and kind.ALONE:
+        fail(kind.ALONE)
+    return [kind.read(*one) for one in files]
+
+
+def files_of(words):
     """(name, lines, calibration) of each file. argparse doesn't say which options stand before a file, so the words, which it has
     taken, are gone through again; each of these options has something behind it."""
     words, calibration, behind, files = iter(words), None, [], []
@@ -45,7 +52,7 @@ def files_of(words, values):
             calibration = value if option == "--cal" else calibration
             behind += [value] * (option == "--cal")
     for unused in set(behind) - {calibration for _, calibration in files[1:]}:
-        values.refuse(f"{unused} has no file behind it: a calibration stands before its files")
+        refuse_word(f"{unused} has no file behind it: a calibration stands before its files")
     for name, calibration in files[1:]:
         text = text_of(name)
         check_end(name, text)
@@ -55,8 +62,8 @@ def files_of(words, values):
 def plotted(values):
     picture = values.picture
     if not picture.endswith((".png", ".svg")):
-        values.refuse(f"{picture} isn't the name of a picture, NAME.png or NAME.svg")
-    files = list(files_of(values.all, values))
+        refuse_word(f"{picture} isn't the name of a picture, NAME.png or NAME.svg")
+    files = list(files_of(values.all))
     units = units_of(values.tick, [calibration for *_, calibration in files])
     refuse_input(picture, [read for name, _, calibration in files for read in (name, calibration) if read])
     kinds = {kind_of(name, lines) for name, lines, _ in files}
@@ -64,9 +71,9 @@ def plotted(values):
         fail("the files are of several kinds")
     kind, first, last = kinds.pop(), getattr(values, "from"), values.to
     if kind not in OF_TICKS and (first, last) != (None, None):
-        fail("--from and --to are for records and signals")
+        refuse_word("--from and --to are for records and signals")
     instead = "; egasim draw draws a record without it" * (kind is plot_records)
-    draw(picture, *kind.picture(files, first, last, units=units), instead)
+    draw(picture, *kind.picture(shown_of(kind, files), first, last, units=units), instead)
 
 
 PLOT = Tool(

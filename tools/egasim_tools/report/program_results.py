@@ -5,6 +5,8 @@ from dataclasses import dataclass, field
 
 from egasim_tools.base.units import Units
 
+MOST_SWEEPS = 20  # of a page
+MOST_NEAR, MOST_DRAWN = 10, 50  # runs that are drawn: that came nearest to a cut, and in all
 SWEPT = re.compile(r"([a-z0-9-]+): runs (\d+); (.*); reaction (\d+|none)")
 SOUND = re.compile(r"^[ \t]*#[ \t]*sound:(.*)$", re.M)  # a comment of a campaign, with names of runs
 
@@ -35,15 +37,18 @@ class Played:
     margins: list
     runs: dict  # tables of the campaign by their names
     sound: list  # names of the runs whose drive is sound
-    records: dict
-    resets: dict  # the ticks at which a run's drive resets the unit
+    ticks: dict  # how many a run's drive has
+    resets: dict  # those at which it resets the unit
     threshold: int
     has_ramp: bool
     weights: dict  # the limits of the watches' weights
+    torque_weights: list  # up, down and limit of the excess of torque
     pairs: dict  # of the calibration
     blind: list  # what the questions don't exercise, in words
     taken: dict  # how long the runs of each class take until something is found
     documents: dict  # texts of docs/ by their names
+    drawn: list = field(default_factory=list)  # the runs whose pictures stand in the page
+    records: dict = field(default_factory=dict)  # of these, and of the sound ones
     sweeps: list = field(default_factory=list)
     left: int = 0  # groups of runs that would be swept if there weren't so many
     not_asked: list = field(default_factory=list)  # of each group that isn't swept since its drive is sound, a run
@@ -65,6 +70,17 @@ def groups_of(runs):
         alike = (run["trace"], run["image"], run.get("engine", "gasoline"), str(run.get("slices")))
         groups.setdefault(alike, []).append(name)
     return groups.values()
+
+
+def drawn_runs(played):
+    """The runs whose pictures stand in the page: those that were declared sound, those that are cut, and of the others the ten
+    that came nearest to a cut; in the order of the table, and fifty at most, those that come first here."""
+    cut = [row["run"] for row in played.rows if row["cut"] or row["off_at"]]
+    nearness = {row["run"]: max(int(row[watch]) / limit for watch, limit in played.weights.items()) for row in played.margins}
+    others = [name for name in nearness if name not in {*played.sound, *cut}]
+    nearest = sorted(others, key=nearness.get, reverse=True)[:MOST_NEAR]
+    chosen = set(list(dict.fromkeys([*played.sound, *cut, *nearest]))[:MOST_DRAWN])
+    return [row["run"] for row in played.rows if row["run"] in chosen]
 
 
 def sounds_in(text):

@@ -4,6 +4,7 @@ import os
 import sys
 
 from egasim_tools.base.command_line import CAL, NAME, PER_CENT, TEXT, TICK_LENGTH, TIME, Form, Tool, Word, file
+from egasim_tools.base.tool import refuse_word
 from egasim_tools.base.units import ticks_of, units_of
 from egasim_tools.evidence.kept_calls import calls_kept
 from egasim_tools.report.asking import Asking
@@ -17,7 +18,7 @@ def asked(values):
     for name in ("sound", "recording", "coupled"):
         said = getattr(values, name)
         if len(set(said)) < len(said):
-            values.refuse(f"--{name}: the same stands twice")
+            refuse_word(f"--{name}: the same stands twice")
     units = units_of(values.tick, [values.cal])
     if values.tolerant is not None:
         values.tolerant = ticks_of("--tolerant", values.tolerant, units) // 1

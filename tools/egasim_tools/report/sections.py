@@ -9,18 +9,17 @@ from egasim_tools.base.documents import blocks_of, cells_of, section_of
 from egasim_tools.base.program import is_own, own_warning
 from egasim_tools.base.records import part_of
 from egasim_tools.base.units import Units
-from egasim_tools.calibration.parameters import WATCHES, torque_weights_of
+from egasim_tools.calibration.parameters import WATCHES
 from egasim_tools.calibration.question_coverage import ranges_said
 from egasim_tools.evidence.detection import HEADS, first_of, matrix
 from egasim_tools.evidence.run_results import (CONFIRMED, EXCESS, NO_EXCESS, ONSET, R_PASSED, RESET, about_run, confirmed_of,
     cuts_of, events, excess_of, finds, given_ticks, lacking, windows)
-from egasim_tools.report.html_parts import Html, code, inline, of_document, paragraph, section, shown, table
-from egasim_tools.report.asking import MOST_SWEEPS
+from egasim_tools.report.html_parts import Html, code, inline, map_inline, of_document, paragraph, section, shown, table
+from egasim_tools.report.program_results import MOST_DRAWN, MOST_NEAR, MOST_SWEEPS
 from egasim_tools.report.run_pictures import record_picture, sweep_picture, taken_picture
 from egasim_tools.report.verdicts import first_ramp_said, is_on_first_ramp, named, verdict
 
 MOST_EVENTS, MOST_MARKS, MOST_CUTS = 30, 12, 12
-MOST_NEAR, MOST_DRAWN = 10, 50  # runs that are drawn: that came nearest to a cut, and in all
 TAKEN = ("Of each class the most ticks from the onset, or the later begin of the span, to the one at which the first watch finds "
          "something, both counted. A dashed line is the most by <code>within</code>, where <code>hidden</code> is 0 in one row of the "
          "class, but not for a lapse, which may miss no tick at its onset; else a bar is white. Runs in which something is found before the onset, or answers are sent within their window, "
@@ -112,16 +111,16 @@ def summary(played):
 
 
 def meanings(played, heading):
-    """What a table of docs/FORMATS.md says: (its first words, the cells of a row), row by row."""
+    """What a table of docs/FORMATS.md says of columns or lines: (their names, the cells of the row), row by row."""
     for kind, lines in blocks_of(section_of(played.documents["FORMATS.md"], heading)):
         for cells in map(cells_of, lines[2:] if kind == "table" else []):
             yield [word.strip("`").split()[0] for word in cells[0].split(", ")], cells
 
 
 def limits(played):
-    said = {names[0]: cells[1] for names, cells in meanings(played, "The text of `limits`")}
-    rows = [(code(name), played.units.cell(name, number), inline(said.get(name, ""))) for name, number in played.limits.items()]
-    yield from table("limits", ("Line", "Number", "What it says"), rows)
+    said = {names[0]: map_inline(cells[1:]) for names, cells in meanings(played, "The text of `limits`")}
+    rows = [(code(name), played.units.cell(name, number), *said.get(name, ("", ""))) for name, number in played.limits.items()]
+    yield from table("limits", ("Line", "Number", "What it says", "Unit"), rows)
 
 
 def coverage(played):
@@ -177,9 +176,9 @@ def evidence(row):
 
 def columns(played, heading, rows):
     """What docs/FORMATS.md says of the columns of these rows."""
-    lines = [map(inline, cells) for names, cells in meanings(played, heading) if set(names) <= set(rows[0])]
+    lines = [map_inline(cells) for names, cells in meanings(played, heading) if set(names) <= set(rows[0])]
     if lines:
-        yield from table("The columns", ("Column", "What stands in it"), lines)
+        yield from table("The columns", ("Column", "What it says", "Unit"), lines)
 
 
 def margins(played):
@@ -197,7 +196,8 @@ def margins(played):
 def sweeps(played):
     yield paragraph("One drive span under one fault of each class, from each tick of a grid on. The run's own fault, and resets "
                     "of its drive, don't count. A bar is the greatest reaction of the runs of a class.")
-    yield paragraph(Html("<code>none</code> counts the runs in which no watch finds anything. Where no excess is confirmed nothing "
+    said = {names[0]: inline(cells[1]) for names, cells in meanings(played, "The table of `sweep`")}
+    yield paragraph(Html(f"<code>none</code> is {said['A']}. Where no excess is confirmed nothing "
                          "has to be cut, so on a sound drive this doesn't say that the monitoring failed. A path that can't open is "
                          "found by the start-up test after the next reset, and a sweep has none; which other faults may stay "
                          "hidden tells docs/SAFETY.md, &quot;What can stay hidden&quot;."))
@@ -232,23 +232,12 @@ def sweep_part(place, sweep, bound, units):
     yield "</div>"
 
 
-def drawn_runs(played):
-    """The runs whose pictures stand in the page: those that were declared sound, those that are cut, and of the others the ten
-    that came nearest to a cut; in the order of the table, and fifty at most, those that come first here."""
-    cut = [row["run"] for row in played.rows if row["cut"] or row["off_at"]]
-    nearness = {row["run"]: max(int(row[watch]) / limit for watch, limit in played.weights.items()) for row in played.margins}
-    others = [name for name in nearness if name not in {*played.sound, *cut}]
-    nearest = sorted(others, key=nearness.get, reverse=True)[:MOST_NEAR]
-    chosen = set(list(dict.fromkeys([*played.sound, *cut, *nearest]))[:MOST_DRAWN])
-    return [row["run"] for row in played.rows if row["run"] in chosen]
-
-
-def not_drawn(played, drawn):
+def not_drawn(played):
     """A table of the other runs, each with the command that draws it."""
     calibration = f" --cal {shlex.quote(played.calibration)}" if played.calibration else ""
     rows = [(row["run"], row["first"], row["cut"] or "-", code(f"egasim record{calibration} {shlex.quote(played.campaign)} {row['run']} "
                                                              f"| egasim draw{calibration} >{row['run']}.svg"))
-            for row in played.rows if row["run"] not in drawn]
+            for row in played.rows if row["run"] not in played.drawn]
     if rows:
         yield paragraph(f"Drawn are the runs that were declared sound, those that are cut, and of the others the {MOST_NEAR} that came "
                         f"nearest to a cut; {MOST_DRAWN} at most. These are not:")
@@ -256,28 +245,35 @@ def not_drawn(played, drawn):
 
 
 def pictures(played):
-    weights, drawn = torque_weights_of(played.calibration), drawn_runs(played)
-    yield from not_drawn(played, set(drawn))
-    for place, (row, (name, record)) in enumerate(zip(played.rows, played.records.items())):
-        if name not in drawn:
-            continue
-        run, resets = played.runs[name], played.resets[name]
-        confirmed = list(confirmed_of(excess_of(record, played.threshold), weights, set(resets)))
-        given = given_ticks(row, len(record["on"]), resets, confirmed)
-        marks = marks_of(record, given)
-        yield f'<div class="run" id="run-{name}">'
-        yield f"<h3>{shown(name)}</h3>"
-        yield paragraph(Html(f"Drive {code(run['trace'])}, image {code(run['image'])}, {run.get('engine', 'gasoline')} engine"
-                             + (f", slices {code(run['slices'])}" if "slices" in run else "")
-                             + (f"; {shown(fault_said(row))}." if row["class"] != "none" else ".")))
-        yield '<div class="parts">'
-        yield from run_figure(f"run{place}", f"Run {name}", record, played.threshold, marks, played.units)
-        yield "<div>"
-        yield from event_table(record, played.threshold, events(record, played.threshold, given), played.units)
-        yield "</div>\n</div>"
-        around = windows(record, played.threshold, {*cuts_of(record, resets), *confirmed})
-        yield from cut_figures(f"run{place}", name, record, played.threshold, marks, around, played.units)
-        yield "</div>"
+    yield from not_drawn(played)
+    for place, row in enumerate(played.rows):
+        if row["run"] in played.drawn:
+            yield from run_drawn(played, place, row)
+
+
+def run_drawn(played, place, row):
+    name = row["run"]
+    run, resets, record = played.runs[name], played.resets[name], played.records[name]
+    confirmed = list(confirmed_of(excess_of(record, played.threshold), played.torque_weights, set(resets)))
+    yield f'<div class="run" id="run-{name}">'
+    yield f"<h3>{shown(name)}</h3>"
+    yield paragraph(Html(f"Drive {code(run['trace'])}, image {code(run['image'])}, {run.get('engine', 'gasoline')} engine"
+                         + (f", slices {code(run['slices'])}" if "slices" in run else "")
+                         + (f"; {shown(fault_said(row))}." if row["class"] != "none" else ".")))
+    yield from run_parts(played, f"run{place}", "Run", name, record, given_ticks(row, len(record["on"]), resets, confirmed),
+                         {*cuts_of(record, resets), *confirmed})
+
+
+def run_parts(played, place, kind, name, record, given, shown_near):
+    """The picture of a record with what happens in it, and the ticks around some of its ticks."""
+    marks, threshold, units = marks_of(record, given), played.threshold, played.units
+    yield '<div class="parts">'
+    yield from run_figure(place, f"{kind} {name}", record, threshold, marks, units)
+    yield "<div>"
+    yield from event_table(record, threshold, events(record, threshold, given), units)
+    yield "</div>\n</div>"
+    yield from cut_figures(place, f"{kind} {name}", record, threshold, marks, windows(record, threshold, shown_near), units)
+    yield "</div>"
 
 
 def others(played):
@@ -286,15 +282,8 @@ def others(played):
                     "A record doesn't say when the unit is reset, so no confirmed excess is marked. A replay is that of level 2 "
                     "alone, by this page's calibration.")
     for place, (name, record) in enumerate(played.coupled.items()):
-        marks = marks_of(record, [])
-        yield f'<div class="run"><h3>{shown(name)}</h3>\n<div class="parts">'
-        yield from run_figure(f"coupled{place}", f"Coupled run {name}", record, played.threshold, marks, played.units)
-        yield "<div>"
-        yield from event_table(record, played.threshold, events(record, played.threshold, []), played.units)
-        yield "</div>\n</div>"
-        yield from cut_figures(f"coupled{place}", name, record, played.threshold, marks,
-                               windows(record, played.threshold, cuts_of(record, [])), played.units, "Coupled run")
-        yield "</div>"
+        yield f'<div class="run"><h3>{shown(name)}</h3>'
+        yield from run_parts(played, f"coupled{place}", "Coupled run", name, record, [], cuts_of(record, []))
     for name, lines in played.replayed.items():
         yield f"<h3>{shown(name)}</h3>"
         yield from table("replay: what level 2 finds", ("of", "what"), [line.split(" ", 1) for line in lines], "data")
@@ -313,7 +302,7 @@ def run_figure(place, title, record, threshold, marks, units=Units()):
     yield "</figure>"
 
 
-def cut_figures(place, name, record, threshold, marks, around, units=Units(), kind="Run"):
+def cut_figures(place, title, record, threshold, marks, around, units=Units()):
     """The ticks around each cut, and around each confirmed excess, where the picture of the whole run is much coarser."""
     shown_near = [(first, last) for first, last in around if 2 * (last + 1 - first) <= len(record["on"])]
     if not shown_near:
@@ -321,8 +310,8 @@ def cut_figures(place, name, record, threshold, marks, around, units=Units(), ki
     yield '<div class="cuts">'
     for number, (first, last) in enumerate(shown_near[:MOST_CUTS]):
         near = [(tick, words) for tick, words in marks if first <= tick <= last]
-        yield from run_figure(f"{place}-cut{number}", f"{kind} {name}, ticks {first} to {last}",
-                              part_of(name, record, first, last), threshold, near, units)
+        yield from run_figure(f"{place}-cut{number}", f"{title}, ticks {first} to {last}",
+                              part_of(title, record, first, last), threshold, near, units)
     yield "</div>"
     if len(shown_near) > MOST_CUTS:
         yield paragraph(Html(f"{len(shown_near) - MOST_CUTS} more such stretches of ticks aren't drawn; the next begins at "

@@ -5,7 +5,7 @@ import sys
 from egasim_tools.base.ranges import CAMPAIGN_TICKS, RUNS
 from egasim_tools.base.toml import toml_of, toml_text
 from egasim_tools.base.tool import TOOL, fail
-from egasim_tools.study.plan import FAULTS, onsets_of
+from egasim_tools.study.plan import FAULTS
 
 MOST_BYTES = 4000000  # of a campaign
 
@@ -56,13 +56,9 @@ def run_of(campaign, name):
     return runs_of_campaign(campaign).get(name) or fail(f"{campaign} has no run {name}")
 
 
-def runs_under_faults(campaign, name, classes, onsets):
-    """The texts of one run of a campaign file under each of these classes, by the words of the call."""
+def runs_under_faults(campaign, name, kinds, places):
+    """The texts of one run of a campaign file under each of these classes, at each of these onsets."""
     base = {key: value for key, value in run_of(campaign, name).items() if key not in ("name", "faults")}
-    kinds, places = list(FAULTS) if classes == "all" else classes.split(","), list(dict.fromkeys(onsets_of(onsets)))
-    for kind in kinds:
-        if kind not in FAULTS:
-            fail(f"no class {kind}; the classes are {', '.join(FAULTS)}; all stands for each of them")
     if len(kinds) * len(places) > RUNS:
         print(f"{TOOL}: writes {len(kinds) * len(places)} runs; the program takes {RUNS} of a campaign at most",
               file=sys.stderr, flush=True)

@@ -7,6 +7,7 @@ from collections import Counter
 from operator import itemgetter
 
 from egasim_tools.base.files import read, refuse_input, sum_of, sum_of_file, text_of, write, written
+from egasim_tools.base.records import limits_in
 from egasim_tools.base.tool import as_noted, fail
 from egasim_tools.base.units import Units, units_of
 from egasim_tools.evidence.detection import HEADS, first_of, matrix
@@ -101,7 +102,7 @@ def limits_of(path):
     done = called(path, "limits")
     if done.returncode:
         fail(f"egasim limits: {done.stderr.decode(errors='replace').strip() or f'status {done.returncode}'}")
-    limits = dict(line.split() for line in done.stdout.decode().splitlines())
+    limits = limits_in(done.stdout.decode())
     if "missed" not in limits:
         fail(f"the program of {path} is of an older version; write the study anew")
     return limits

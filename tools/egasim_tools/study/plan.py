@@ -2,10 +2,9 @@
 
 import itertools
 import random
-import re
 
-from egasim_tools.base.ranges import LIST_LENGTH, TRACE_TICKS, WORD
-from egasim_tools.base.toml import toml_of, toml_text
+from egasim_tools.base.ranges import LIST_LENGTH, WORD
+from egasim_tools.base.toml import check_keys, toml_of, toml_text, whole_in
 from egasim_tools.base.tool import fail
 
 # The numbers of `sweep` for each class. A key with a list here takes lists.
@@ -33,9 +32,7 @@ PARAMETERS = sorted({"every", SHARE, *(key for keys in FAULTS.values() for key i
 def checked_plan(name):
     """The plan of a file, with a fault of its own for each class."""
     plan = {"engines": ["gasoline"], "slices": [None], "seed": 1, "calibration": None, **toml_of(name)}
-    for key in plan:
-        if key not in ("drives", "images", "engines", "slices", "calibration", "seed", "fault"):
-            fail(f"{name}: no plan has a key {key}")
+    check_keys(name, plan, ("drives", "images", "engines", "slices", "calibration", "seed", "fault"))
     for key in ("drives", "images", "engines", "slices", "fault"):
         if not isinstance(plan.get(key), list) or not plan[key]:
             fail(f"{name}: {key} must be a list, and not an empty one")
@@ -63,8 +60,7 @@ def faults_of(name, number, fault):
             check_share(f"{name}: fault {number}", fault)
         elif kind != "none" and "onset" not in fault:
             fail(f"{name}: fault {number} has no onset")
-        if type(fault.get("draw", 1)) is not int or not 1 <= fault.get("draw", 1) <= MOST_DRAWN:
-            fail(f"{name}: fault {number}: draw, for each class, must be a whole number from 1 to {MOST_DRAWN}")
+        whole_in(f"{name}: fault {number}: draw, for each class,", fault.get("draw", 1), MOST_DRAWN, 1)
         own = {} if SHARE in fault else FAULTS.get(kind, {})
         yield {"class": kind, **own, **{key: fault[key] for key in fault if key != "class"}}
 
@@ -160,16 +156,3 @@ def groups_of(plan, ticks):
     draws = random.Random(plan["seed"])
     for group in itertools.product(plan["drives"], plan["images"], range(len(plan["slices"])), plan["engines"]):
         yield *group, faults_on(plan, draws, ticks[group[0]])
-
-
-def onsets_of(text):
-    """The onsets that a word names, as 0-90, 0-90/10 or 5,7."""
-    for part in text.split(","):
-        match = re.fullmatch("([0-9]{1,5})(?:-([0-9]{1,5})(?:/([1-9][0-9]{0,4}))?)?", part)
-        if not match:
-            fail(f"no onsets: {part}")
-        first, last, step = (int(number) if number else None for number in match.groups())
-        last = first if last is None else last
-        if not first <= last < TRACE_TICKS:
-            fail(f"no onsets: {part}")
-        yield from range(first, last + 1, step or 1)

@@ -52,6 +52,7 @@ class CommandLine(unittest.TestCase):
                             (["a", "--falls", "1x"], "1x is no time"), (["a", "--tick", "0ms"], "0ms is no length of a tick"),
                             (["a", "b", "c"], "unrecognized arguments: c"), ([""], "an empty word is no name"),
                             (["a", "--room", "3", "--room", "4"], "--room: stands twice"),
+                            (["a", "--room", "7", "--room", "4"], "--room: stands twice"),  # 7 is what it is without the word
                             (["join"], "required: ONE"), (["join", "a", "--strict"], "unrecognized arguments: --strict")):
             self.assertIn(told, str(self.values(*words)), words)
 
@@ -64,11 +65,16 @@ class CommandLine(unittest.TestCase):
             for word in tool.words():
                 self.assertIn(f"\n  {word.said()}", told)
 
-    def test_declared_tools_are_the_scripts_and_those_of_egasim_help(self):
+    def test_egasim_help_tells_what_each_tool_does(self):
+        told = subprocess.run([os.path.join(TOOLS, "help")], stdout=subprocess.PIPE, text=True, check=True).stdout
+        tools = [" ".join(lines.split()) for lines in re.split(r"\n  (?=[a-z])", told.partition("Python 3.11:\n")[2].partition("\n\n  help")[0])]
+        self.assertEqual([line for line in tools if line], [f"{tool.name} {tool.does}" for tool in DECLARED])
+
+    def test_declared_tools_are_the_scripts(self):
         scripts = {entry.name for entry in os.scandir(TOOLS) if entry.is_file() and os.access(entry.path, os.X_OK)} - SHELL
         self.assertEqual({tool.name for tool in DECLARED}, scripts)
         named = re.findall(r"^## egasim ([a-z]+)$", text_of(os.path.join(TOP, "docs", "TOOLS.md")), re.M)
-        self.assertEqual(named, [tool.name for tool in DECLARED if tool.name != "draw"])
+        self.assertEqual(named, [tool.name for tool in DECLARED if tool.name in named or tool.name != "draw"])
         for name in scripts - {"partner"}:
             self.assertLessEqual(len(text_of(os.path.join(TOOLS, name)).splitlines()), 10, name)
 

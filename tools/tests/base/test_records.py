@@ -5,7 +5,7 @@ import unittest
 
 from notes import note_of
 
-from egasim_tools.base.records import check_end, corners, part_of, record_of, stretches, thinned, tick_said
+from egasim_tools.base.records import check_end, corners, part_of, record_of, stretches, thinned
 
 HEADER = "tick,torque,limit,path1,path2,on,found\n"
 
@@ -72,11 +72,6 @@ class Parts(unittest.TestCase):
             self.assertEqual(note_of(part_of, "r", self.RECORD, first, last),
                              "r has ticks 5 to 8, and none of those that are asked for")
 
-    def test_tick_is_digits(self):
-        self.assertEqual(tick_said("--from", "0"), 0)
-        self.assertEqual(tick_said("--to", "999999999"), 999999999)
-        for said in ("", "-1", "1.5", "1000000000", "\u0661"):
-            self.assertEqual(note_of(tick_said, "--from", said), f"--from {said} is no tick")
 
 
 class Curves(unittest.TestCase):

@@ -5,6 +5,7 @@ import errno
 import io
 import os
 import resource
+import shutil
 import signal
 import subprocess
 import sys
@@ -12,7 +13,7 @@ import unittest
 from unittest import mock
 
 from egasim_tools.base.files import TOOLS
-from egasim_tools.base.tool import as_noted, fail, guarded, words_or_help
+from egasim_tools.base.tool import as_noted, fail, guarded
 from in_folder import InFolder
 from notes import note_of
 
@@ -54,16 +55,6 @@ class Tool(unittest.TestCase):
     def test_closed_output_is_told(self):
         with mock.patch.object(sys, "stdout", None):
             self.assertEqual(note_of(guarded, lambda: None), "standard output is closed")
-
-    def test_words_are_those_of_the_call_or_else_help_is_printed(self):
-        with mock.patch.object(sys, "argv", ["study", "a", "--help"]):
-            self.assertEqual(words_or_help("help"), ["a", "--help"])
-        for words, status, streams in ((["--help"], 0, ("help\n", "")), (["-h"], 0, ("help\n", "")), ([], 2, ("", "help\n"))):
-            out, err = io.StringIO(), io.StringIO()
-            with (mock.patch.object(sys, "argv", ["study", *words]), contextlib.redirect_stdout(out),
-                  contextlib.redirect_stderr(err), self.assertRaises(SystemExit) as end):
-                words_or_help("help")
-            self.assertEqual((end.exception.code, (out.getvalue(), err.getvalue())), (status, streams))
 
 
 class Ends(InFolder):
@@ -135,6 +126,18 @@ guarded(main)"""
         words = f"import sys; sys.path.insert(0, {TOOLS!r}); sys.version_info = (3, 10, 9); import egasim_tools"
         done = subprocess.run([sys.executable, "-Bc", words], capture_output=True, text=True, check=False)
         self.assertEqual((done.returncode, done.stderr), (1, "-c: Python 3.11 or later is needed\n"))
+
+    def test_what_python_compiles_is_kept_in_a_checkout_alone(self):
+        os.makedirs("top/crates")
+        shutil.copytree(TOOLS, "top/tools", ignore=shutil.ignore_patterns("__pycache__", "tests"))
+        compiled = "top/tools/egasim_tools/base/__pycache__"
+        variables = {"PATH": os.environ["PATH"]}
+        for is_checkout in (True, False):
+            for kept, more in ((False, {"PYTHONDONTWRITEBYTECODE": "1"}), (is_checkout, {})):
+                subprocess.run(["top/tools/draw", "--help"], stdout=subprocess.DEVNULL, check=True, env=variables | more)
+                self.assertEqual(os.path.isdir(compiled), kept)
+            shutil.rmtree(compiled, ignore_errors=True)
+            shutil.rmtree("top/crates", ignore_errors=True)
 
     def test_each_tool_finds_its_modules_also_where_python_keeps_its_folder_out(self):
         tools = [name for name in os.listdir(TOOLS) if self.text(f"{TOOLS}/{name}").startswith("#!/usr/bin/env python3\n")]

@@ -106,9 +106,6 @@ class Beside(InFolder):
                          [30, 30, 30, Fraction(51, 2)])
         self.assertEqual(ticks_of("--falls", "30", Units()), 30)
         self.assertEqual(note_of(ticks_of, "--falls", "300ms", Units()), "--falls 300ms: how long a tick is has to be said (--tick 10ms)")
-        for said in ("1.5", "x", "-1", "", "1 min", "1234567890"):
-            self.assertEqual(note_of(ticks_of, "--falls", said, Units(MS)),
-                             f"--falls {said} is no time, such as 300ms or 0.3s, and no number of ticks")
 
     def test_units_have_one_key(self):
         for text in ("", 'tick = "10ms"\nms = 1\n', 'tack = "10ms"\n'):

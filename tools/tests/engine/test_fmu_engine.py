@@ -190,7 +190,7 @@ class Hostile(Engines):
                 ('load = { name = "load", unit = "%", factor = 10 }', "", "either an output load, or kt, above 0, is needed"),
                 ("tick = 0.01", "tick = true", 'tick has to be a number of seconds, or a time such as "10ms"'),
                 ("tick = 0.01", "tick = 0.01\nkt = 2.5", "kt has to be a whole number"),
-                ("tick = 0.01", "tick = 0.01\nticks = 1", "ticks isn't one of fmu, drive, tick, resets, kt, inputs, outputs, start"),
+                ("tick = 0.01", "tick = 0.01\nticks = 1", "there is no key ticks; the keys are fmu, drive, tick, resets, kt, inputs, outputs, start"),
                 ('"N.m", factor = 10', '"N.m", factor = 1', "outputs.torque.factor is 1, and from N.m to tenths of Nm it is 10"),
                 ('"N.m", factor = 10', '"N.m", factor = inf', "outputs.torque.factor: inf is no number to count with"),
                 ('"N.m", factor = 10', '"N.m", factor = 0', "outputs.torque.factor is 0: whatever torque is, the same would be told"),

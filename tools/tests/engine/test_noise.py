@@ -4,8 +4,9 @@ import random
 import statistics
 import unittest
 
+from egasim_tools.base.command_line import Refused
 from egasim_tools.engine.noise import SENSED, Noise, numbers_in
-from notes import note_of
+from egasim_tools.engine.partner_words import noise_in
 
 MIDDLE = [500, 4000, 0, 0, 0, 500, 30000, 30000, 100]  # far from all ranges, and from the law of loads
 
@@ -60,4 +61,4 @@ class Noisy(unittest.TestCase):
 
     def test_words_that_are_none(self):
         for word in ("", "1", "1,", ",1", "1,2,3", "1,-2", "-1,2", "1,2.", "1,1.2345", "1,123456", "x,1", "1, 2"):
-            self.assertEqual(note_of(Noise, word, 2500), f"--noise {word}: SEED,SIGMA is wanted, as 1,2.5")
+            self.assertRaisesRegex(Refused, "is no SEED,SIGMA, as 1,2.5$", noise_in, word)

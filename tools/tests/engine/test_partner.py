@@ -39,6 +39,15 @@ class Partner(InFolder):
         os.unlink("top/egasim")
         self.assertEqual(self.call("top/tools/partner"), (1, "", "partner: there is no script egasim above the tools\n"))
 
+    def test_options_are_read_as_they_are_declared(self):
+        words = f"{TOOLS}/egasim_tools/engine/partner_words.py"
+        odd = os.fsdecode(b"it's \xff")
+        for said, told in ((["--noise", "1,2", odd, "c.toml", "a"], ["1,2", "", odd, "c.toml", "a"]),
+                           (["--recording=r.csv", "p", "--cal", "k.toml", "c.toml", "a"], ["", "r.csv", "p", "--cal", "k.toml", "c.toml", "a"])):
+            done = subprocess.run(["sh", "-c", 'said=$(python3 "$@") && eval "$said" && printf "%s\\n" "$noise" "$recording" "$@"', "sh",
+                                   words, "partner", *said], stdout=subprocess.PIPE, check=True)
+            self.assertEqual(os.fsdecode(done.stdout).split("\n")[:-1], told)
+
     def test_what_a_killed_call_left_is_removed_by_the_next(self):
         ended = subprocess.Popen("true")
         ended.wait()

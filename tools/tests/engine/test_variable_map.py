@@ -72,6 +72,6 @@ class Joints(unittest.TestCase):
                            ({"name": "count", "factor": -0.0}, "here.factor is 0: whatever count is, the same would be told"),
                            ({"name": "share", "factor": True}, "here: factor has to be a number"),
                            ({"name": "share", "clip": 1}, "here: clip has to be true or false"),
-                           ({"name": "share", "gain": 1}, "here: gain isn't one of name, unit, factor, offset, clip"),
+                           ({"name": "share", "gain": 1}, "here: there is no key gain; the keys are name, unit, factor, offset, clip"),
                            ("share", 'here: a table with the variable\'s name is wanted: { name = ".." }')):
             self.assertEqual(note_of(Joint, "here", "load", told, VARIABLES), said)

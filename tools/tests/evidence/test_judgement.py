@@ -3,10 +3,11 @@
 from unittest import mock
 
 from egasim_tools.base.units import Units
-from egasim_tools.evidence import judgement as judging
+from egasim_tools.evidence import expected_runs
 from egasim_tools.evidence.conclusive_runs import Shown, recording_shown
 from egasim_tools.evidence.expectations import Check, Expected
-from egasim_tools.evidence.judgement import inputs_of, verdict, verdicts
+from egasim_tools.evidence.expected_runs import Asking, inputs_of
+from egasim_tools.evidence.judgement import verdict, verdicts
 from in_folder import InFolder
 from notes import note_of
 from test_verdicts import row_of
@@ -244,7 +245,7 @@ class Files(InFolder):
         self.put("d.csv", "pedal,speed,raise,reset\n" + "0,0,0,0\n" * 100)
         self.put("c.toml", "".join(f'[[run]]\nname = "{name}"\ntrace = "d.csv"\nimage = "i.hex"\n' for name in ("b", "a", "a-2")))
         self.rows = [CUT, SOUND, SOUND | {"run": "a-2"}]
-        self.enterContext(mock.patch.object(judging, "printed_by", self.printed))
+        self.enterContext(mock.patch.object(expected_runs, "printed_by", self.printed))
 
     def printed(self, command, *words, readings=None):
         self.calls.append((command, *words, *([readings] if readings else [])))
@@ -254,7 +255,8 @@ class Files(InFolder):
 
     def judged(self, text, is_strict=False):
         self.put("e.toml", f'calibration = "cal.toml"\n{text}' if "calibration" not in text else text)
-        told = list(verdicts(Expected("e.toml", None), is_strict))
+        expected = Expected("e.toml", None)
+        told = list(verdicts(expected, Asking(expected), is_strict))
         return [(one.subject, one.name, one.is_so) for one in told]
 
     def test_limits(self):
@@ -302,4 +304,4 @@ class Files(InFolder):
     def test_campaign_that_changes_meanwhile_is_told(self):
         self.rows = self.rows[:2]
         self.put("e.toml", 'campaign = "c.toml"\n[[expect]]\nrun = "a"\nsound = true')
-        self.assertEqual(note_of(lambda: list(verdicts(Expected("e.toml", None), False))), "c.toml changed meanwhile")
+        self.assertEqual(note_of(Asking(Expected("e.toml", None)).runs), "c.toml changed meanwhile")

@@ -188,7 +188,7 @@ class Keeping(InFolder):
         self.assertEqual(self.keep("p/k", "--", "p/bin/egasim", "bound", program="./p/lib/egasim/egasim")[0], 0)
         for way in ("d/egasim", "./gone/egasim", "p/bin/egasim"):
             self.assertEqual(self.keep("o", "--", way, "bound"),
-                             (2, "", f"{way} isn't the program that would be run, {os.path.realpath(shutil.which('echo'))}\n"))
+                             (2, "", f"{way} isn't the program that would be run, {os.path.realpath(shutil.which('echo'))}; --help tells the words\n"))
         for way in ("l-egasim", "echo", "", "egasim/", "/"):
             self.assertEqual(self.keep("o", "--", way, "bound")[0], 2)
 

@@ -102,11 +102,13 @@ class Validating(InFolder):
 
     def test_words_that_are_none(self):
         os.mkdir("there")
-        usage = "one folder is needed, and --gate or --gate-log alone; --help tells more"
-        for words, note in (("there", "there is there already"), ("a b", usage), ("a --gate --gate-log l", usage),
-                            ("a --jobs 0", "--jobs takes a whole number from 1 to 999999999"),
-                            ("a --odd", "--odd is no word of it; --help tells the words"),
-                            ("a --without gate", "--without takes one of cases, streams, examples, edits, compare, fuzz, refuse, addresses, images"),
+        more = "; --help tells the words"
+        for words, note in (("there", "there is there already"), ("a b", f"unrecognized arguments: b{more}"),
+                            ("a --gate --gate-log l", f"--gate and --gate-log are two calls{more}"),
+                            ("a --jobs 0", f"--jobs: 0 is no whole number from 1 to 999999999{more}"),
+                            ("a --odd", f"unrecognized arguments: --odd{more}"),
+                            ("a --without gate", "--without: gate is none of cases, streams, examples, edits, compare, fuzz, refuse, addresses, "
+                                                 f"images{more}"),
                             ("a --gate-log gone", "cannot read gone: No such file or directory")):
             done = subprocess.run([sys.executable, f"{DIST}/validate", *words.split()], capture_output=True, text=True,
                                   check=False, env=os.environ | {"EGASIM_PROGRAM": "/bin/true"})

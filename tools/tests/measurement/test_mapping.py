@@ -57,7 +57,7 @@ class Mappings(InFolder):
                 ("", "makes must be one of trace, recording"), ('makes = "drive"', "makes must be one of trace, recording"),
                 ('makes = "trace"', "tick None is no length of a tick, such as 10ms, 2.5ms or 0.02s, of 10 s at the most"),
                 ('makes = "trace"\ntick = "10ms"', 'age must say beyond what age a value is a gap, such as "100ms"'),
-                ("tack = 1", "the mapping has no key tack; its keys are makes, tick, age, gap, file, time, keys, cut, run"),
+                ("tack = 1", "there is no key tack; the keys are makes, tick, age, gap, file, time, keys, cut, run"),
                 (HEAD + 'gap = "fill"\n', "gap must be one of hold, cut"), (HEAD + "time = 1", "time must be a table"),
                 (HEAD, "time.channel must be the name of a channel, or the number of its column, from 1 on"),
                 (HEAD + '[time]\nchannel = 0\n', "time.channel must be the name of a channel, or the number of its column, from 1 on"),
@@ -69,16 +69,16 @@ class Mappings(InFolder):
 
     def test_what_keys_may_not_say(self):
         for change, note in (
-                (("raise", "rise"), "keys of a trace has no key rise; its keys are pedal, speed, raise, reset, brake"),
+                (("raise", "rise"), "keys of a trace: there is no key rise; the keys are pedal, speed, raise, reset, brake"),
                 (("raise = { value = 0 }", ""), "keys has no raise, which a trace needs; raise = { value = 0 } writes 0"),
                 (("{ value = 800 }", "800"), "keys.speed must be a table with one of channel, value and of"),
                 (("value = 800", 'value = 800, of = "pedal"'), "keys.speed must be a table with one of channel, value and of"),
-                (("value = 800", "value = 8001"), "keys.speed.value must be a whole number, 0 to 8000"),
-                (("value = 800", "value = 8.5"), "keys.speed.value must be a whole number, 0 to 8000"),
-                (("value = 800", "value = 800, factor = 2"), "keys.speed has no key factor; its keys are value"),
+                (("value = 800", "value = 8001"), "keys.speed.value must be a whole number from 0 to 8000"),
+                (("value = 800", "value = 8.5"), "keys.speed.value must be a whole number from 0 to 8000"),
+                (("value = 800", "value = 800, factor = 2"), "keys.speed: there is no key factor; the keys are value"),
                 (("value = 800", 'of = "brake"'), "keys.speed.of must be a key that has a channel or a value"),
                 (("value = 800", 'of = "speed"'), "keys.speed.of must be a key that has a channel or a value"),
-                (('"p"', '"p", edge = true'), "keys.pedal has no key edge; its keys are channel, time, factor, offset, round, age, texts"),
+                (('"p"', '"p", edge = true'), "keys.pedal: there is no key edge; the keys are channel, time, factor, offset, round, age, texts"),
                 (('"p"', '"p", factor = 0'), "keys.pedal.factor is 0, by which nothing of the channel stays; { value = N } writes a constant"),
                 (('"p"', '"p", factor = 1e308'), "keys.pedal.factor is out of range: less than 10^18, please"),
                 (('"p"', '"p", offset = -1e18'), "keys.pedal.offset is out of range: less than 10^18, please"),
@@ -114,7 +114,7 @@ class Mappings(InFolder):
                 ('[cut]\nchannel = "v"\nmost = "x"\n', 'cut.most must be a number, or a text such as "1000/4095"'),
                 ("[run]\nsound = true\n", "run.image must be the name of an image"),
                 ('[run]\nimage = "i"\nsound = 1\n', "run.sound must be true or false"),
-                ('[run]\nimage = "i"\nfaults = []\n', "run has no key faults; its keys are image, engine, slices, sound")):
+                ('[run]\nimage = "i"\nfaults = []\n', "run: there is no key faults; the keys are image, engine, slices, sound")):
             self.assertEqual(self.note(HEAD + TIME + KEYS + more), note)
 
 

@@ -9,6 +9,7 @@ from notes import note_of
 
 from egasim_tools.base.files import TOP
 from egasim_tools.report import asking
+from egasim_tools.calibration.parameters import calibration_of
 from egasim_tools.report.asking import Asking, blind_for, declared, document, own_files
 from egasim_tools.report.program_results import Swept, groups_of, sounds_in
 
@@ -32,13 +33,13 @@ class Playing(unittest.TestCase):
         self.assertEqual(list(groups_of(runs)), [["a", "b", "e"], ["c"], ["d"]])
 
     def test_the_reference_is_blind_for_some_things(self):
-        self.assertEqual(blind_for(None)[0], "no 1 in bit 0 of the pedal")
+        self.assertEqual(blind_for(calibration_of(None))[0], "no 1 in bit 0 of the pedal")
         with open(os.path.join(TOP, "examples", "calibration", "reference.toml"), encoding="utf-8") as file:
             text = file.read()
         with tempfile.NamedTemporaryFile("w", suffix=".toml") as file:
             file.write(text.replace("answer = 55753", "answer = 55754"))
             file.flush()
-            self.assertEqual(note_of(blind_for, file.name), "answer 1 isn't what this tool works out")
+            self.assertEqual(note_of(blind_for, calibration_of(file.name)), "answer 1 isn't what this tool works out")
 
     def test_lines_of_a_sweep(self):
         swept = Swept(["a"], 2, ["halt: runs 3; none 1; torque 2; reaction 29", "path-open: runs 3; none 3; torque 0; reaction none",

@@ -5,6 +5,7 @@ import unittest
 from notes import note_of
 
 from egasim_tools.report import plot_margins, plot_records, plot_signals, plot_sweeps, plot_table
+from egasim_tools.report.plot_tool import shown_of
 
 WATCHES = "pedal,plate,load,speed,torque,answers"
 LIMITS = dict.fromkeys(WATCHES.split(","), 10)
@@ -19,7 +20,7 @@ class Records(unittest.TestCase):
     LINES = ["tick,torque,limit,path1,path2,on,found", *(f"{tick},{tick},200,1,1,1,-" for tick in range(10))]
 
     def test_part_is_drawn_at_its_ticks(self):
-        height, script = script_of(plot_records.picture([("it's", self.LINES, None)] * 2, 3, 5))
+        height, script = script_of(plot_records.picture([plot_records.read("it's", self.LINES, None)] * 2, 3, 5))
         self.assertEqual(height, 2 * plot_records.HEIGHT)
         self.assertEqual(script.count("set xrange [3:6]\n"), 2)
         self.assertEqual(script.count('set title "it\\047s" noenhanced\n'), 2)
@@ -37,11 +38,12 @@ class Sweeps(unittest.TestCase):
             self.assertEqual(note_of(plot_sweeps.sweep_of, "s", lines), "s is no whole table of sweep")
 
     def test_other_classes_are_refused(self):
-        files = [("a", self.LINES, None), ("b", self.LINES[1:], None)]
+        files = [plot_sweeps.read(name, lines, None) for name, lines in (("a", self.LINES), ("b", self.LINES[1:]))]
         self.assertEqual(note_of(plot_sweeps.picture, files), "the sweeps have other classes than the first one")
 
     def test_bars_stand_side_by_side(self):
-        data, drawn, numbers = plot_sweeps.bars([("a", [], None), ("b", [], "c.toml")], [{"halt": 29}, {"halt": None}])
+        data, drawn, numbers = plot_sweeps.bars([plot_sweeps.Sweep("a", None, {"halt": 29}, 34),
+                                                 plot_sweeps.Sweep("b", "c.toml", {"halt": None}, 34)])
         self.assertEqual(data, ["$sweep0 << END_OF_DATA\n-0.23 29 0.46 29\nEND_OF_DATA\n",
                                 "$sweep1 << END_OF_DATA\n0.23 0 0.46 none\nEND_OF_DATA\n"])
         self.assertIn('title "b by c.toml"', drawn[1])
@@ -69,13 +71,13 @@ class Tables(unittest.TestCase):
 
     def test_axis_is_over_the_onsets_that_are_there(self):
         lines = [self.HEADER, "a,halt,500,3,34", "b,bus,530,1,34", "c,lapse,515,60,34"]
-        height, script = script_of(plot_table.picture([("t", lines, None)]))
+        height, script = script_of(plot_table.picture([plot_table.read("t", lines, None)]))
         self.assertIn("set xrange [499.0:531.0]", script)
         self.assertIn("layout 2,2", script)
         self.assertEqual(height, plot_table.HEAD + 2 * plot_table.PANEL)
         self.assertEqual(script.count("\nplot "), 3)
         self.assertEqual(script.count("34 with lines"), 2)  # none under lapses
-        self.assertEqual(note_of(plot_table.picture, [("t", lines, None)] * 2), "one table makes a picture")
+        self.assertEqual(note_of(shown_of, plot_table, [("t", lines, None)] * 2), "one table makes a picture")
 
 
 class Margins(unittest.TestCase):
@@ -91,7 +93,7 @@ class Margins(unittest.TestCase):
                             ([self.HEADER, "a,0"], "m has no margins: line 2 has no such row"),
                             ([self.HEADER, "a,0\r1"], "m has no margins: line 2 isn't one of CSV")):
             self.assertEqual(note_of(plot_margins.weights_of, "m", lines, LIMITS), note)
-        self.assertEqual(note_of(plot_margins.picture, [("m", [self.HEADER, "a,0,0,0,0,0,0,0"], None)]),
+        self.assertEqual(note_of(plot_margins.read, "m", [self.HEADER, "a,0,0,0,0,0,0,0"], None),
                          "m has no weight above 0: nothing bad was seen in a run")
 
     def test_many_runs_have_numbers(self):
@@ -113,8 +115,9 @@ class Signals(unittest.TestCase):
     def test_title_says_which_trip_is_drawn(self):
         for first, last, title in (
                 (None, None, "s, up to the trip at 2"), (0, 1, "s"), (2, 3, "s, up to the trip at 2")):
-            self.assertIn(f'set title "{title}" ', script_of(plot_signals.picture([("s", self.LINES, None)], first, last))[1])
-        self.assertEqual(note_of(plot_signals.picture, [("s", self.LINES, None)], 3, 3),
+            shown = [plot_signals.read("s", self.LINES, None)]
+            self.assertIn(f'set title "{title}" ', script_of(plot_signals.picture(shown, first, last))[1])
+        self.assertEqual(note_of(plot_signals.picture, [plot_signals.read("s", self.LINES, None)], 3, 3),
                          "s, up to its trip, has ticks 0 to 2, and none of those that are asked for")
 
     def test_signals_that_were_cut_out_have_their_ticks(self):

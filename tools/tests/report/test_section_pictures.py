@@ -41,7 +41,7 @@ class Tables(unittest.TestCase):
 
 class Cuts(unittest.TestCase):
     def titles(self, around, record=QUIET):
-        lines = list(cut_figures("run0", "late", record, 200, [(5, "torque 5")], around))
+        lines = list(cut_figures("run0", "Run late", record, 200, [(5, "torque 5")], around))
         return [line for line in lines if "<title>" in line], "".join(lines)
 
     def test_ticks_around_a_cut_are_drawn_in_a_long_run(self):

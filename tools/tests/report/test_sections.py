@@ -8,8 +8,9 @@ from egasim_tools.base.documents import section_of
 from egasim_tools.base.units import Units
 from egasim_tools.evidence.detection import Taken
 from egasim_tools.report.asking import DOCUMENTS, document
-from egasim_tools.report.sections import (about, claims, coverage, drawn_runs, greatest, not_drawn, pair, summary, sweeps,
-    swept_most, warnings)
+from egasim_tools.report.program_results import drawn_runs
+from egasim_tools.report.sections import (about, claims, coverage, greatest, not_drawn, pair, summary, sweeps, swept_most,
+    warnings)
 
 
 def played_of(**parts):
@@ -29,7 +30,8 @@ class Drawn(unittest.TestCase):
         self.assertTrue({"r1", *cut} <= set(drawn))
         self.assertEqual((len(drawn), [name for name in drawn if name not in {"r1", *cut}]),
                          (41, [f"r{number}" for number in range(200) if number % 97 >= 92 and f"r{number}" not in cut]))
-        told = "\n".join(not_drawn(played, set(drawn)))
+        played.drawn = drawn
+        told = "\n".join(not_drawn(played))
         self.assertEqual(told.count("egasim draw --cal own.toml"), 159)
         played.sound = names
         self.assertEqual(len(drawn_runs(played)), 50)
@@ -65,7 +67,7 @@ class Telling(unittest.TestCase):
         text = "\n".join(sweeps(played_of(not_asked=["sound"], left=2)))
         self.assertIn("Not swept, for they are sound drives: sound (--sweep-sound sweeps them too).", text)
         self.assertIn("2 more drives", text)
-        self.assertIn("<code>none</code> counts the runs in which no watch finds anything.", text)
+        self.assertIn("<code>none</code> is the number of runs in which no watch finds anything.", text)
         self.assertNotIn("Not swept", "\n".join(sweeps(played_of())))
 
     def test_what_finds_a_fault_is_told_in_units(self):

@@ -6,6 +6,7 @@ import tomllib
 
 from egasim_tools.base.ranges import CAMPAIGN_TICKS, RUNS
 from egasim_tools.study.campaigns import MOST_BYTES, Campaign, run_of, run_text, runs_under_faults
+from egasim_tools.study.plan import FAULTS
 from in_folder import InFolder
 from notes import note_of
 
@@ -45,7 +46,7 @@ class Campaigns(InFolder):
             self.assertEqual(note_of(run_of, "odd.toml", "a"), "odd.toml is no campaign: its runs stand in [[run]]")
 
     def test_run_is_written_under_each_class_at_each_onset(self):
-        text, told = self.written("a", "lapse,path-open", "0-2/2")
+        text, told = self.written("a", ["lapse", "path-open"], [0, 2])
         runs = tomllib.loads(text)["run"]
         self.assertEqual([run["name"] for run in runs], ["lapse-0", "lapse-2", "path-open-0", "path-open-2"])
         self.assertEqual(runs[3], {"name": "path-open-2", "trace": "d", "image": "i", "engine": "diesel",
@@ -53,14 +54,10 @@ class Campaigns(InFolder):
         self.assertEqual(told, "")
 
     def test_more_runs_than_the_program_takes_are_counted_first(self):
-        text, told = self.written("a", "halt", "0-999")
+        text, told = self.written("a", ["halt"], range(1000))
         self.assertEqual((text.count("[[run]]"), told), (1000, ""))
-        text, told = self.written("a", "halt", "0-1000")
+        text, told = self.written("a", ["halt"], range(1001))
         self.assertEqual((text.count("[[run]]"), told),
                          (1001, "writes 1001 runs; the program takes 1000 of a campaign at most\n"))
-        text, told = self.written("a", "all", "0-3000")
+        text, told = self.written("a", list(FAULTS), range(3001))
         self.assertEqual((text.count("[[run]]"), told[:18]), (14 * 3001, "writes 42014 runs;"))
-
-    def test_unknown_class_is_told_with_those_that_there_are(self):
-        note = note_of(self.written, "a", "bus,track", "0")
-        self.assertRegex(note, "^no class track; the classes are script, offset, .*, lapse; all stands for each of them$")

@@ -4,7 +4,7 @@ import random
 import unittest
 
 from egasim_tools.study.plan import (FAULTS, PARAMETERS, checked_plan, choices, drawn, drawn_from, drawn_runs, faults_of,
-    faults_on, groups_of, missed_runs, numbers_of, onsets_of)
+    faults_on, groups_of, missed_runs, numbers_of)
 from in_folder import InFolder
 from notes import note_of
 
@@ -38,7 +38,7 @@ class Checked(InFolder):
 
     def test_what_no_plan_has_is_refused(self):
         good = 'drives = ["d"]\nimages = ["i"]\n[[fault]]\nclass = "none"\n'
-        for text, note in (("x = 1\n" + good, "no plan has a key x"),
+        for text, note in (("x = 1\n" + good, "there is no key x; the keys are drives, images, engines, slices, calibration, seed, fault"),
                            (good.replace('["d"]', "[]"), "drives must be a list, and not an empty one"),
                            (good.replace('["i"]', '"i"'), "images must be a list, and not an empty one"),
                            ("fault = []\n" + good.partition("[[")[0], "fault must be a list, and not an empty one"),
@@ -176,14 +176,3 @@ class Runs(unittest.TestCase):
         draws = random.Random(1)
         self.assertEqual(onsets(1), [int(1000 * draws.random()) for _ in range(50)])
         self.assertNotEqual(onsets(1), onsets(2))
-
-
-class Onsets(unittest.TestCase):
-    def test_words(self):
-        for word, onsets in (("7", [7]), ("5,7", [5, 7]), ("0-3", [0, 1, 2, 3]), ("0-9/4", [0, 4, 8]), ("19999", [19999]),
-                             ("3-3", [3]), ("1,8-9", [1, 8, 9])):
-            self.assertEqual(list(onsets_of(word)), onsets)
-
-    def test_what_are_no_onsets(self):
-        for word in ("", "9-1", "0-20000", "20000", "-1", "1-", "0-9/0", "1,,2", "a", "٣", "1" * 400):
-            self.assertRegex(note_of(lambda word=word: list(onsets_of(word))), "^no onsets: ")
