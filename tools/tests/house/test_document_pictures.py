@@ -1,0 +1,130 @@
+"""Pictures of the documents, read back without the code that draws them: places by the numbers on an axis, texts by
+what the program and the documents say. Lettering is at least 10 px at 800 px, and no text lies over another."""
+
+import csv
+import os
+import re
+import subprocess
+import unittest
+import xml.etree.ElementTree
+
+TOP = os.path.dirname(os.path.dirname(os.path.dirname(os.path.dirname(os.path.realpath(__file__)))))
+SVG = "{http://www.w3.org/2000/svg}"
+
+
+def told(*words):
+    """The lines that a command of the program prints."""
+    done = subprocess.run([f"{TOP}/egasim", *words], cwd=TOP, stdout=subprocess.PIPE, text=True, check=True)
+    return done.stdout.splitlines()
+
+
+def rows(*words):
+    return list(csv.DictReader(told(*words)))
+
+
+class Seen:
+    """What a reader sees in a picture: texts, boxes and lines with their places."""
+
+    def __init__(self, name):
+        self.root = xml.etree.ElementTree.parse(f"{TOP}/docs/{name}.svg").getroot()
+        self.width, self.height = float(self.root.get("width")), float(self.root.get("height"))
+        self.texts = [(float(e.get("x")), float(e.get("y")), e.text, float(e.get("font-size")), e.get("text-anchor"))
+                      for e in self.root.iter(f"{SVG}text")]
+        self.boxes = [tuple(float(e.get(side)) for side in ("x", "y", "width", "height"))
+                      for e in self.root.iter(f"{SVG}rect") if e.get("x")]
+        self.lines = [[tuple(map(float, point.split(","))) for point in e.get("points").split()]
+                      for e in self.root.iter(f"{SVG}polyline")]
+
+    def place_of(self, words):
+        [place] = [(x, y) for x, y, text, *_ in self.texts if text == words]
+        return place
+
+    def room_of(self, text):
+        """The box that a text fills at least: left, right, top, foot."""
+        x, y, words, size, anchor = text
+        wide = 0.56 * size * len(words)
+        left = x - {"middle": wide / 2, "end": wide}.get(anchor, 0)
+        return left, left + wide, y - 0.75 * size, y + 0.2 * size
+
+    def lying_over(self):
+        rooms = [(self.room_of(text), text[2]) for text in self.texts]
+        return [(one, other) for i, (a, one) in enumerate(rooms) for b, other in rooms[:i]
+                if a[0] < b[1] and b[0] < a[1] and a[2] < b[3] and b[2] < a[3]]
+
+    def out_of_sight(self):
+        rooms = [(self.room_of(text), text[2]) for text in self.texts]
+        return [words for room, words in rooms
+                if room[0] < 0 or room[1] > self.width + 1 or room[2] < 0 or room[3] > self.height]
+
+
+class Legible(unittest.TestCase):
+    def test_each_picture_is_legible_and_says_what_it_is(self):
+        names = [name.removeprefix("draw_") for name in os.listdir(f"{TOP}/checks") if name.startswith("draw_")]
+        for name in names:
+            with self.subTest(name):
+                seen = Seen(name)
+                self.assertEqual((seen.lying_over(), seen.out_of_sight()), ([], []))
+                self.assertGreaterEqual(min(size for _, _, _, size, _ in seen.texts) * min(1, 800 / seen.width), 10)
+                for part in ("title", "desc"):
+                    self.assertTrue(seen.root.find(f"{SVG}{part}").text)
+
+
+class Times(unittest.TestCase):
+    def setUp(self):
+        self.seen = Seen("times")
+        axis = [(x, float(words)) for x, y, words, *_ in self.seen.texts if words.isdecimal() and y < 60]
+        (near, self.zero), (far, last) = min(axis), max(axis)
+        self.near, self.step = near, (far - near) / (last - self.zero)
+
+    def tick_at(self, x):
+        return round(self.zero + (x - self.near) / self.step, 2)
+
+    def span(self, label):
+        """The first tick of the bar beside a name, and the tick at which the bar ends."""
+        _, y = self.seen.place_of(label)
+        [(x, wide)] = [(x, wide) for x, top, wide, high in self.seen.boxes if top < y < top + high]
+        return self.tick_at(x), self.tick_at(x + wide)
+
+    def moment(self, label):
+        """The tick of the upright line below words: that line is nearest which their anchor means."""
+        x, _ = self.seen.place_of(label)
+        return self.tick_at(min((a for (a, y), *_, (b, foot) in self.seen.lines if a == b and foot - y > 50),
+                                key=lambda place: abs(place - x)))
+
+    def test_the_spans_are_those_of_limits_and_of_the_runs(self):
+        limits = dict(line.split() for line in told("limits"))
+        debounce, reaction, stretch = (int(limits[name]) for name in ("excess", "reaction", "stretch"))
+        by = {run: rows("record", "examples/first_run/levels.toml", run) for run in ("full", "full-path1")}
+        off = {run: next(int(row["tick"]) for row in by[run] if row["on"] == "0") for run in by}
+        high = [int(row["tick"]) for row in by["full-path1"] if int(row["torque"]) > int(row["limit"]) + 200]
+        first, found = high[0], next(int(row["tick"]) for row in by["full"] if row["found"] == "torque")
+        self.assertEqual({label: self.moment(label) for label in ("fault", "first excess", "confirmed", "cut by path 1",
+                                                                  "cut by path 2")},
+                         {"fault": 0, "first excess": first, "confirmed": found, "cut by path 1": off["full"],
+                          "cut by path 2": off["full-path1"]})
+        self.assertEqual(self.span("D"), (first, first + debounce))
+        self.assertEqual(self.span("path 1: next tick"), (found, off["full"]))
+        self.assertEqual(self.span("R (path 2, at the latest)"), (found, found + reaction))
+        self.assertEqual(self.span("stretch = D - 1 + R"), (first, first + stretch))
+        begin, end = self.span("fault tolerant time")
+        self.assertEqual((self.span("a tick: begun between two"), self.span("torque falls (--falls)")),
+                         ((begin, first), (first + stretch, end)))
+
+    def test_the_fault_tolerant_time_is_the_least_that_find_takes(self):
+        [words] = [words for _, _, words, *_ in self.seen.texts if "at least" in words]
+        ticks, tick, whole = re.fullmatch(r"at least (\d+) ticks of (\d+) ms: (\d+) ms", words).groups()
+        begin, end = self.span("fault tolerant time")
+        self.assertEqual((end - begin, int(ticks) * int(tick)), (int(ticks), int(whole)))
+        call = ["find", "examples/first_run/diesel.toml", "--cal", "examples/calibration/reference.toml",
+                "--tick", f"{tick}ms", "--tolerant", f"{whole}ms", "--falls", "20ms", "--thresholds", "200"]
+        stretch = dict(line.split() for line in told("limits"))["stretch"]
+        self.assertIn(f"T is {stretch} ", told(*call)[0])
+
+    def test_what_watches_find_is_as_coverage_says(self):
+        for row in rows("coverage"):
+            if row["finds"] != "-":
+                [label] = [words for _, _, words, *_ in self.seen.texts if row["finds"] in words.split(", ")]
+                self.assertEqual(self.span(label), (0, int(row["within"])))
+                _, y = self.seen.place_of(label)
+                [beside] = [words for _, foot, words, *_ in self.seen.texts if foot == y and words != label]
+                self.assertIn(row["class"], re.findall(r"[a-z0-9-]+", beside))
