@@ -128,3 +128,41 @@ class Times(unittest.TestCase):
                 _, y = self.seen.place_of(label)
                 [beside] = [words for _, foot, words, *_ in self.seen.texts if foot == y and words != label]
                 self.assertIn(row["class"], re.findall(r"[a-z0-9-]+", beside))
+
+
+class Chain(unittest.TestCase):
+    def setUp(self):
+        self.seen = Seen("chain")
+        self.things = sorted((top, top + high) for _, top, _, high in self.seen.boxes)
+        self.arrows = sorted((line[0][1], line[-1][1]) for line in self.seen.lines if line[0][0] == line[-1][0])
+
+    def test_each_thing_is_joined_to_the_next(self):
+        between = [(foot, top) for (_, foot), (top, _) in zip(self.things, self.things[1:])]
+        self.assertEqual(len(between), len(self.arrows))
+        for (foot, top), (begin, end) in zip(between, self.arrows):
+            self.assertTrue(begin == foot and 0 <= top - end < 3)
+
+    def test_each_arrow_has_one_check_that_is_there(self):
+        with open(f"{TOP}/.ci/run", encoding="utf-8") as gate:
+            gate = gate.read()
+        for begin, end in self.arrows:
+            [checks] = [words for _, y, words, *_ in self.seen.texts if words.startswith("check: ") and begin < y < end]
+            for check in checks.removeprefix("check: ").split(", "):
+                first, *words = check.split()
+                if first == "rt":
+                    self.assertIn(f"  {check} ||", gate)
+                elif first == "egasim":
+                    self.assertTrue(os.access(f"{TOP}/tools/{words[0].lstrip('-')}", os.X_OK), check)
+                else:
+                    self.assertTrue(os.path.isfile(f"{TOP}/{words[0] if first == 'sha256sum' else check}"), check)
+
+    def test_each_trusted_part_is_named_in_the_documents(self):
+        with open(f"{TOP}/docs/EVIDENCE.md", encoding="utf-8") as evidence:
+            parts = re.findall(r"^\| (TR\d+)\.", evidence.read(), re.M)
+        named = set()
+        for _, _, words, *_ in self.seen.texts:
+            if words.startswith("trusted: "):
+                numbers = list(map(int, re.findall(r"TR(\d+)", words)))
+                named |= set(range(numbers[0], numbers[1] + 1)) if " to TR" in words else set()
+                named |= set(numbers)
+        self.assertEqual(sorted(named), sorted(int(part[2:]) for part in parts))
