@@ -166,3 +166,52 @@ class Chain(unittest.TestCase):
                 named |= set(range(numbers[0], numbers[1] + 1)) if " to TR" in words else set()
                 named |= set(numbers)
         self.assertEqual(sorted(named), sorted(int(part[2:]) for part in parts))
+
+
+class Goals(unittest.TestCase):
+    def setUp(self):
+        self.seen = Seen("goals")
+        self.at = {words: (x, y - 4) for x, y, words, *_ in self.seen.texts if re.fullmatch(r"[GSKEA]\d+", words)}
+        with open(f"{TOP}/docs/ARGUMENT.md", encoding="utf-8") as argument:
+            lines = [line.strip("|\n ").split(" | ") for line in argument if line.startswith("|")]
+        self.table = {cells[0]: cells[1:] for cells in lines if re.fullmatch(r"[GSKEA]\d+", cells[0])}
+
+    def element(self, x, y):
+        """The element at whose shape a line begins or ends."""
+        [name] = [name for name, (a, b) in self.at.items() if abs(x - a) <= 24 and abs(y - b) <= 14]
+        return name
+
+    def test_each_row_stands_once_and_is_joined_to_its_parents(self):
+        drawn = [words for _, _, words, *_ in self.seen.texts if re.fullmatch(r"[GSKEA]\d+", words)]
+        self.assertEqual(sorted(drawn), sorted(self.table))
+        joined = sorted((self.element(*line[-1]), self.element(*line[0])) for line in self.seen.lines)
+        self.assertEqual(joined, sorted((name, parent) for name, (_, _, under) in self.table.items()
+                                        for parent in under.split(", ") if parent != "-"))
+
+    def test_each_text_stands_beside_its_element(self):
+        for name, (_, words, _) in self.table.items():
+            x, y = self.at[name]
+            lower = [b for a, b in self.at.values() if b > y]
+            beside = [(foot, text) for left, foot, text, *_ in self.seen.texts
+                      if left > x and y - 1 < foot < min(lower, default=1e9) - 1]
+            self.assertEqual(re.sub("[`' ]", "", "".join(text for _, text in sorted(beside))), re.sub("[`' ]", "", words))
+
+    def test_each_kind_has_its_shape(self):
+        def near(tag, name, low, high):
+            x, y = self.at[name]
+            places = map(middle, self.seen.root.iter(f"{SVG}{tag}"))
+            return sum(abs(a - x) < 4 and low <= b - y <= high for a, b in places)
+
+        def middle(element):
+            if element.get("cx"):
+                return float(element.get("cx")), float(element.get("cy"))
+            if element.get("points"):
+                points = [tuple(map(float, point.split(","))) for point in element.get("points").split()]
+                return tuple((min(side) + max(side)) / 2 for side in zip(*points))
+            sides = {side: float(element.get(side) or 0) for side in ("x", "y", "width", "height")}
+            return sides["x"] + sides["width"] / 2, sides["y"] + sides["height"] / 2
+
+        for name, (kind, *_) in self.table.items():
+            shapes = [near(tag, name, -2, 2) for tag in ("rect", "ellipse", "polygon")]
+            self.assertEqual((*shapes, near("polygon", name, 14, 22)), {"goal": (1, 0, 0, 0), "context": (1, 0, 0, 0), "solution": (0, 1, 0, 0),
+                                      "strategy": (0, 0, 1, 0), "undeveloped goal": (1, 0, 0, 1)}[kind], name)
