@@ -194,7 +194,8 @@ class Goals(unittest.TestCase):
             lower = [b for a, b in self.at.values() if b > y]
             beside = [(foot, text) for left, foot, text, *_ in self.seen.texts
                       if left > x and y - 1 < foot < min(lower, default=1e9) - 1]
-            self.assertEqual(re.sub("[`' ]", "", "".join(text for _, text in sorted(beside))), re.sub("[`' ]", "", words))
+            drawn = "".join(text for _, text in sorted(beside))
+            self.assertEqual(re.sub("[`' ]", "", drawn), re.sub("[`' ]", "", words))
 
     def test_each_kind_has_its_shape(self):
         def near(tag, name, low, high):
@@ -213,5 +214,6 @@ class Goals(unittest.TestCase):
 
         for name, (kind, *_) in self.table.items():
             shapes = [near(tag, name, -2, 2) for tag in ("rect", "ellipse", "polygon")]
-            self.assertEqual((*shapes, near("polygon", name, 14, 22)), {"goal": (1, 0, 0, 0), "context": (1, 0, 0, 0), "solution": (0, 1, 0, 0),
-                                      "strategy": (0, 0, 1, 0), "undeveloped goal": (1, 0, 0, 1)}[kind], name)
+            self.assertEqual((*shapes, near("polygon", name, 14, 22)), {
+                "goal": (1, 0, 0, 0), "context": (1, 0, 0, 0), "solution": (0, 1, 0, 0),
+                "strategy": (0, 0, 1, 0), "undeveloped goal": (1, 0, 0, 1)}[kind], name)
