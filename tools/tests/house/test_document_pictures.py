@@ -217,3 +217,57 @@ class Goals(unittest.TestCase):
             self.assertEqual((*shapes, near("polygon", name, 14, 22)), {
                 "goal": (1, 0, 0, 0), "context": (1, 0, 0, 0), "solution": (0, 1, 0, 0),
                 "strategy": (0, 0, 1, 0), "undeveloped goal": (1, 0, 0, 1)}[kind], name)
+
+
+class Levels(unittest.TestCase):
+    # The element that a class hits, as C38 has it.
+    HIT = {"script": "Sensors", "offset": "Sensors", "bus": "Drive trace", "plate": "Engine", "wild": "Level 3",
+           "halt": "Level 1",
+           **dict.fromkeys(("path1-closed", "path2-closed", "path-open"), "Power stages"),
+           **dict.fromkeys(("skip", "disturb", "flip", "timing", "lapse"), "Level 2")}
+
+    def setUp(self):
+        self.seen = Seen("levels")
+        self.coverage = {}
+        for row in rows("coverage"):
+            self.coverage.setdefault(row["class"], []).append(row)
+
+    def told_of(self, name):
+        """What stands at a class: its line and the lines below it that stand to the right."""
+        [(x, y, words)] = [(x, y, words) for x, y, words, *_ in self.seen.texts
+                           if re.match(rf"{name}( \(.*\))? - ", words)]
+        past = [foot for left, foot, *_ in self.seen.texts if left == x and foot > y]
+        more = [below for left, foot, below, *_ in self.seen.texts
+                if left == x + 14 and y < foot < min(past, default=1e9)]
+        return x, y, " ".join([words, *more])
+
+    def test_each_class_stands_once_at_its_element(self):
+        self.assertEqual(set(self.coverage), set(self.HIT))
+        for name, title in self.HIT.items():
+            x, y, _ = self.told_of(name)
+            above = max((top + high, left, top, wide) for left, top, wide, high in self.seen.boxes
+                        if left == x and top < y)
+            [words] = [words for a, b, words, *_ in self.seen.texts
+                       if abs(a - above[1] - above[3] / 2) < 2 and b == above[2] + 20]
+            self.assertTrue(words.startswith(title), f"{name} stands below {words}")
+
+    def test_each_watch_stands_at_its_class_with_the_path_that_opens(self):
+        reaction = dict(line.split() for line in told("limits"))["reaction"]
+        for name, cases in self.coverage.items():
+            words = self.told_of(name)[2].split(" - ", 1)[1]
+            ways = dict(way.rsplit(": ", 1) if ": " in way else (way, None) for way in words.split("; "))
+            seen = {(watch, way) for watches, way in ways.items() for watch in watches.split(", ")}
+            said = set()
+            for case in cases:
+                finds, off = case["finds"], case["off"]
+                last = "path 2" if off.endswith(f" {reaction}") or off == reaction else "path 1"
+                if off == "0" and finds == "-":
+                    said.add(("off at once", None))
+                elif off.startswith("excess"):
+                    said.add((off, None))
+                elif finds == "-":
+                    said.add(("order", "path 2") if off.startswith("ordered") else ("torque", last))
+                else:
+                    itself = "no cut" if off.startswith("confirmed") else last
+                    said.add((finds, "a test" if finds == "start" else itself))
+            self.assertEqual(seen, said, name)
